@@ -1,0 +1,4 @@
+pub mod Items
+pub mod Spelling
+pub mod Names
+pub mod Rosters
