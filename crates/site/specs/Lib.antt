@@ -1,0 +1,4 @@
+pub mod Links
+pub mod Plans
+pub mod Promises
+pub mod Sites

@@ -1,0 +1,40 @@
+-- Links between numbered nodes, and the ports at their ends.
+use mathlib.Core.Path.{_≡_}
+use mathlib.Core.Bool.{Bool, false, _&&_, _||_, cond}
+use mathlib.Core.List.{List, [], _∷_}
+use mathlib.Core.Logic.{_⊎_}
+use Prim.Native.Nat.{ℕ, _+_}
+use lib.Dec.{eqb}
+use lib.ListN.{length, getD}
+use Rattle.site.specs.declared.parts.Link.{Link}
+
+-- what stands past the end of a list of links
+abbrev pub nowhere : Link
+nowhere = record { a = 0; b = 0 }
+
+-- whether a node is an end of a link
+abbrev pub ends : Link → ℕ → Bool
+ends l n = eqb (l .a) n || eqb (l .b) n
+
+-- whether a link joins two nodes, whichever stands first in it
+abbrev pub joins : Link → ℕ → ℕ → Bool
+joins l m n = (eqb (l .a) m && eqb (l .b) n) || (eqb (l .a) n && eqb (l .b) m)
+
+-- whether some link joins two nodes
+abbrev pub joined : List Link → ℕ → ℕ → Bool
+joined [] m n = false
+joined (l ∷ ls) m n = joins l m n || joined ls m n
+
+-- whether a node has a link
+abbrev pub linked : List Link → ℕ → Bool
+linked [] n = false
+linked (l ∷ ls) n = ends l n || linked ls n
+
+-- the numbers, from i on, of the links of a node
+abbrev pub linksFrom : ℕ → List Link → ℕ → List ℕ
+linksFrom i [] n = []
+linksFrom i (l ∷ ls) n = cond (ends l n) (i ∷ linksFrom (i + 1) ls n) (linksFrom (i + 1) ls n)
+
+-- the numbers of the links of a node, ascending
+abbrev pub linksAt : List Link → ℕ → List ℕ
+linksAt ls n = linksFrom 0 ls n
