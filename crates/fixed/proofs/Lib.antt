@@ -1,3 +1,4 @@
 pub mod Held
 pub mod Letters
 pub mod Numbering
+pub mod Enrolling

@@ -1,4 +1,7 @@
+pub mod Refusals
 pub mod Links
 pub mod Plans
+pub mod Fields
+pub mod Maps
 pub mod Promises
 pub mod Sites

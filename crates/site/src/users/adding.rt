@@ -1,0 +1,42 @@
+// Adding a user, and asking for one.
+ghost use mathlib.Core.Path.{_≡_};
+ghost use mathlib.Core.List.{[]};
+ghost use Rattle.std.specs.Results.{Cases};
+ghost use Rattle.std.specs.declared.result.Result.the-variants.{Ok, Err};
+ghost use Rattle.fixed.specs.Items.{items};
+ghost use Rattle.fixed.specs.Rosters.{names};
+ghost use Rattle.site.specs.Fields.{enrolUser};
+use super::UserTable;
+use crate::refusals::Cause;
+use crate::refusals::CauseFromNameFault;
+use fixed::NameTable;
+use fixed::Table;
+
+impl UserTable {
+    pub(crate) fn new() -> Self
+        ensures { λ r. ⌜ (names (r .roster) ≡ []) × (items (r .ranks) ≡ []) ⌝ }
+    {
+        UserTable { roster: NameTable::new(), ranks: Table::new(0) }
+    }
+
+    // One user more, given as a rank byte and then a name; where it is refused, the table stays as it is.
+    pub(crate) fn add(&mut self, body: &[u8]) -> Result<(), Cause>
+        ensures added { λ r. ⌜ Cases r
+            (λ _. enrolUser (names (now (self .entry) .roster)) (items (now (self .entry) .ranks)) (now (body .entry)) ≡ Ok (names (now (self .exit) .roster), items (now (self .exit) .ranks)))
+            (λ e. enrolUser (names (now (self .entry) .roster)) (items (now (self .entry) .ranks)) (now (body .entry)) ≡ Err e) ⌝ }
+        ensures kept { λ r. ⌜ Cases r (λ _. Unit {0}) (λ _. now (self .exit) ≡ now (self .entry)) ⌝ }
+    {
+        let [rank, name @ ..] = body else {
+            return Err(Cause::NotAName);
+        };
+        let mut roster = self.roster;
+        roster.add(name)?;
+        if *rank == 0 {
+            return Err(Cause::BadRankOrReading);
+        }
+        let mut ranks = self.ranks;
+        ranks.push(*rank);
+        *self = UserTable { roster, ranks };
+        Ok(())
+    }
+}
