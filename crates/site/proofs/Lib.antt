@@ -1,2 +1,4 @@
 pub mod Joining
 pub mod Seating
+pub mod Sealing
+pub mod Folds

@@ -1,11 +1,8 @@
 -- Links between numbered nodes, and the ports at their ends.
-use mathlib.Core.Path.{_≡_}
 use mathlib.Core.Bool.{Bool, false, _&&_, _||_, cond}
 use mathlib.Core.List.{List, [], _∷_}
-use mathlib.Core.Logic.{_⊎_}
 use Prim.Native.Nat.{ℕ, _+_}
 use lib.Dec.{eqb}
-use lib.ListN.{length, getD}
 use Rattle.site.specs.declared.parts.Link.{Link}
 
 -- what stands past the end of a list of links
@@ -20,15 +17,18 @@ ends l n = eqb (l .a) n || eqb (l .b) n
 abbrev pub joins : Link → ℕ → ℕ → Bool
 joins l m n = (eqb (l .a) m && eqb (l .b) n) || (eqb (l .a) n && eqb (l .b) m)
 
+-- whether some link passes a test
+abbrev pub anyLink : (Link → Bool) → List Link → Bool
+anyLink test [] = false
+anyLink test (l ∷ ls) = test l || anyLink test ls
+
 -- whether some link joins two nodes
 abbrev pub joined : List Link → ℕ → ℕ → Bool
-joined [] m n = false
-joined (l ∷ ls) m n = joins l m n || joined ls m n
+joined ls m n = anyLink (λ l. joins l m n) ls
 
 -- whether a node has a link
 abbrev pub linked : List Link → ℕ → Bool
-linked [] n = false
-linked (l ∷ ls) n = ends l n || linked ls n
+linked ls n = anyLink (λ l. ends l n) ls
 
 -- the numbers, from i on, of the links of a node
 abbrev pub linksFrom : ℕ → List Link → ℕ → List ℕ

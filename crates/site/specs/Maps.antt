@@ -18,7 +18,8 @@ use Rattle.site.specs.declared.refusals.Cause.{Cause}
 use Rattle.site.specs.declared.refusals.Cause.the-variants.{CutShort, Unsealable}
 use Rattle.site.specs.declared.refusals.Refusal.{Refusal}
 use Rattle.site.specs.Links.{linked}
-use Rattle.site.specs.Plans.{Plan}
+use Rattle.site.specs.declared.draft.Draft.{Draft}
+use Rattle.site.specs.Plans.{Plan, planOf}
 use Rattle.site.specs.Fields.{Field, field, declare, Adds, code}
 use Rattle.site.specs.Refusals.{refuse}
 
@@ -69,13 +70,18 @@ onward go (Err e) = Err e
 
 -- the fields of bs, the first of which stands at p, declared on s; k is at least their number
 abbrev pub fields : ℕ → ℕ → Plan → List ℕ → Result Plan Refusal
-fields zero p s bs = seal p s
+fields zero p s bs = Ok s
 fields (suc k) p s bs =
-    cond (eqb (length bs) 0) (seal p s)
+    cond (eqb (length bs) 0) (Ok s)
     (onward (λ t. fields k (p + span bs) t (drop (span bs) bs)) (oneField p s bs))
 
 abbrev pub readMap : List ℕ → Result Plan Refusal
-readMap bs = fields (length bs) 0 blank bs
+readMap bs = onward (seal (length bs)) (fields (length bs) 0 blank bs)
+
+-- what a draft says, or why there is none
+abbrev pub drafted : Result Draft Refusal → Result Plan Refusal
+drafted (Ok d) = Ok (planOf d)
+drafted (Err e) = Err e
 
 -- the bytes of a field
 abbrev pub encoded : Field → List ℕ

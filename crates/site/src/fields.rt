@@ -4,7 +4,7 @@ ghost use mathlib.Core.Bool.{Bool};
 ghost use lib.ListN.{length};
 ghost use Rattle.std.specs.Results.{Cases};
 ghost use Rattle.std.specs.declared.result.Result.the-variants.{Ok, Err};
-ghost use Rattle.site.specs.Links.{joins, joined};
+ghost use Rattle.site.specs.Links.{joined};
 ghost use Rattle.site.specs.Plans.{planOf};
 ghost use Rattle.site.specs.Fields.{field, declare, declareLink, declareReading, fitting};
 ghost use Rattle.site.specs.Maps.{blank};
@@ -22,15 +22,6 @@ const LINK: u8 = 2;
 const CLASS: u8 = 3;
 const USER: u8 = 4;
 const READING: u8 = 5;
-
-impl Link {
-    // Whether it joins two nodes, whichever stands first in it.
-    pub fn joins(self, m: u8, n: u8) -> bool
-        ensures { λ r. ⌜ r ≡ joins self m n ⌝ }
-    {
-        (self.a == m && self.b == n) || (self.a == n && self.b == m)
-    }
-}
 
 impl Draft {
     pub(crate) fn new() -> Draft

@@ -2,6 +2,7 @@
 mod draft;
 mod fields;
 mod parts;
+mod reader;
 mod refusals;
 mod sealed;
 mod users;

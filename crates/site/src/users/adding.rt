@@ -1,6 +1,7 @@
 // Adding a user, and asking for one.
 ghost use mathlib.Core.Path.{_≡_};
 ghost use mathlib.Core.List.{[]};
+ghost use lib.ListN.{length};
 ghost use Rattle.std.specs.Results.{Cases};
 ghost use Rattle.std.specs.declared.result.Result.the-variants.{Ok, Err};
 ghost use Rattle.fixed.specs.Items.{items};
@@ -17,6 +18,12 @@ impl UserTable {
         ensures { λ r. ⌜ (names (r .roster) ≡ []) × (items (r .ranks) ≡ []) ⌝ }
     {
         UserTable { roster: NameTable::new(), ranks: Table::new(0) }
+    }
+
+    pub(crate) fn len(&self) -> usize
+        ensures { λ r. ⌜ r ≡ length (names (now (self .entry) .roster)) ⌝ }
+    {
+        self.roster.len()
     }
 
     // One user more, given as a rank byte and then a name; where it is refused, the table stays as it is.
