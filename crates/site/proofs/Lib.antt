@@ -5,3 +5,5 @@ pub mod Folds
 pub mod Adding
 pub mod Encoding
 pub mod Saying
+pub mod Keeping
+pub mod Writing

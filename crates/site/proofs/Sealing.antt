@@ -24,3 +24,7 @@ pub all-linked : (ls : List Link) (n : ℕ) → allLinked ls n ≡ true → All-
 all-linked ls zero a = λ k lt. absurd (omega arith)
 all-linked ls (suc n) a = λ k lt.
     ⊎-elim (λ q. rw q (and-parts (linked ls n) _ a .0)) (λ ne. all-linked ls n (and-parts (linked ls n) _ a .1) k (omega arith)) (cases-eq k n)
+
+pub linked-all : (ls : List Link) (n : ℕ) → All-linked n ls → allLinked ls n ≡ true
+linked-all ls zero a = refl
+linked-all ls (suc n) a = and-from _ _ (a n (omega arith)) (linked-all ls n (λ k lt. a k (omega arith)))
