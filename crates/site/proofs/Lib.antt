@@ -7,3 +7,4 @@ pub mod Encoding
 pub mod Saying
 pub mod Keeping
 pub mod Writing
+pub mod Ending
