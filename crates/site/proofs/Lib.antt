@@ -8,3 +8,4 @@ pub mod Saying
 pub mod Keeping
 pub mod Writing
 pub mod Ending
+pub mod Asking

@@ -2,6 +2,7 @@
 ghost use mathlib.Core.Path.{_≡_};
 ghost use mathlib.Core.List.{[]};
 ghost use lib.ListN.{length};
+ghost use Rattle.std.specs.Finite.{nth};
 ghost use Rattle.std.specs.Results.{Cases};
 ghost use Rattle.std.specs.declared.result.Result.the-variants.{Ok, Err};
 ghost use Rattle.fixed.specs.Items.{items};
@@ -24,6 +25,18 @@ impl UserTable {
         ensures { λ r. ⌜ r ≡ length (names (now (self .entry) .roster)) ⌝ }
     {
         self.roster.len()
+    }
+
+    pub(crate) fn roster(&self) -> &NameTable<16>
+        ensures { λ r. ⌜ now r ≡ now (self .entry) .roster ⌝ }
+    {
+        &self.roster
+    }
+
+    pub(crate) fn rank(&self, user: usize) -> Option<u8>
+        ensures { λ r. ⌜ r ≡ nth (items (now (self .entry) .ranks)) user ⌝ }
+    {
+        self.ranks.get(user)
     }
 
     // One user more, given as a rank byte and then a name; where it is refused, the table stays as it is.
