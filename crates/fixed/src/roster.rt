@@ -1,7 +1,7 @@
 // A table of names, numbered from 0 in the order in which they were added.
 ghost use mathlib.Core.Path.{_≡_};
 ghost use mathlib.Core.Bool.{Bool, true, false};
-ghost use mathlib.Core.List.{[]};
+ghost use mathlib.Core.List.{[], map};
 ghost use Prim.Native.Nat.{ℕ, _≤_};
 ghost use lib.ListN.{length};
 ghost use Rattle.std.specs.Finite.{nth};
@@ -40,6 +40,13 @@ impl<const N: usize> NameTable<N> {
         ensures within { λ r. ⌜ r ≤ N ⌝ }
     {
         self.list.len()
+    }
+
+    // The names, first to last.
+    pub fn as_slice(&self) -> &[Name]
+        ensures { λ r. ⌜ map spelling (now r) ≡ names (now (self .entry)) ⌝ }
+    {
+        self.list.as_slice()
     }
 
     // The name under a number.

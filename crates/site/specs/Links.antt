@@ -13,6 +13,10 @@ nowhere = record { a = 0; b = 0 }
 abbrev pub ends : Link → ℕ → Bool
 ends l n = eqb (l .a) n || eqb (l .b) n
 
+-- the end of a link that is not the given one
+abbrev pub farEnd : Link → ℕ → ℕ
+farEnd l n = cond (eqb (l .a) n) (l .b) (l .a)
+
 -- whether a link joins two nodes, whichever stands first in it
 abbrev pub joins : Link → ℕ → ℕ → Bool
 joins l m n = (eqb (l .a) m && eqb (l .b) n) || (eqb (l .a) n && eqb (l .b) m)

@@ -1,6 +1,6 @@
 // What a site is made of, besides names.
 ghost use mathlib.Core.Path.{_≡_};
-ghost use Rattle.site.specs.Links.{ends, joins};
+ghost use Rattle.site.specs.Links.{ends, farEnd, joins};
 
 // A link between two nodes, by their numbers. It has no direction.
 #[derive(Clone, Copy)]
@@ -15,6 +15,13 @@ impl Link {
         ensures { λ r. ⌜ r ≡ ends self node ⌝ }
     {
         self.a == node || self.b == node
+    }
+
+    // The end that is not the given one.
+    pub fn far_end(self, node: u8) -> u8
+        ensures { λ r. ⌜ r ≡ farEnd self node ⌝ }
+    {
+        if self.a == node { self.b } else { self.a }
     }
 
     // Whether it joins two nodes, whichever stands first in it.

@@ -1,5 +1,6 @@
 // What can be asked of a sealed site.
 ghost use mathlib.Core.Path.{_≡_};
+ghost use mathlib.Core.List.{map};
 ghost use Prim.Native.Nat.{_≤_};
 ghost use lib.ListN.{length};
 ghost use Rattle.std.specs.Finite.{nth};
@@ -44,6 +45,27 @@ impl Site {
         ensures within { λ r. ⌜ r ≤ 16 ⌝ }
     {
         self.draft.users.len()
+    }
+
+    // The names of the nodes, by number.
+    pub fn nodes(&self) -> &[Name]
+        ensures { λ r. ⌜ map spelling (now r) ≡ plan (now (self .entry)) .nodes ⌝ }
+    {
+        self.draft.nodes.as_slice()
+    }
+
+    // The names of the classes, by number.
+    pub fn classes(&self) -> &[Name]
+        ensures { λ r. ⌜ map spelling (now r) ≡ plan (now (self .entry)) .classes ⌝ }
+    {
+        self.draft.classes.as_slice()
+    }
+
+    // The names of the users, by number.
+    pub fn users(&self) -> &[Name]
+        ensures { λ r. ⌜ map spelling (now r) ≡ plan (now (self .entry)) .users ⌝ }
+    {
+        self.draft.users.roster().as_slice()
     }
 
     // The number of the node of a name.
