@@ -1,5 +1,6 @@
 -- The text of a site sheet: comments with the counts, a line for each declaration, comments with the links of each node.
-use mathlib.Core.Bool.{Bool, cond}
+use mathlib.Core.Path.{_≡_}
+use mathlib.Core.Bool.{cond}
 use mathlib.Core.List.{List, [], _∷_, _++_}
 use Prim.Native.Nat.{ℕ, _+_}
 use lib.Chars.{codes}
@@ -10,6 +11,10 @@ use Rattle.site.specs.declared.parts.Reading.{Reading}
 use Rattle.site.specs.declared.parts.Reading.the-variants.{Implied, Spoken}
 use Rattle.site.specs.Links.{ends, farEnd}
 use Rattle.site.specs.Plans.{Plan, readingOn}
+
+-- a text after x was written at its end
+pub record Appended (was x now : List ℕ) : Type 0 where
+  pub is : now ≡ was ++ x
 
 -- a text for each element, told its number, from i on
 abbrev pub eachFrom : {X : Type 0} → (ℕ → X → List ℕ) → ℕ → List X → List ℕ
@@ -37,7 +42,7 @@ abbrev pub linkLine : Plan → Link → List ℕ
 linkLine s l = codes "link " ++ (nameAt s (l .a) ++ (codes " " ++ (nameAt s (l .b) ++ codes "\n")))
 
 abbrev pub userLine : Plan → ℕ → List ℕ → List ℕ
-userLine s i name = codes "user " ++ (name ++ (codes " " ++ (decimal (getD (s .ranks) i 0) ++ codes "\n")))
+userLine s i name = codes "user " ++ (name ++ (codes " " ++ count (getD (s .ranks) i 0) (codes "\n")))
 
 abbrev pub readingLine : Reading → List ℕ
 readingLine Implied = codes "reading implied\n"
@@ -46,7 +51,7 @@ readingLine Spoken = codes "reading spoken\n"
 -- a link of the node n, with the node at its far end
 abbrev pub linkNote : Plan → ℕ → ℕ → Link → List ℕ
 linkNote s n i l =
-    cond (ends l n) (codes " " ++ (decimal i ++ (codes " (" ++ (nameAt s (farEnd l n) ++ codes ")")))) []
+    cond (ends l n) (codes " " ++ (count i (codes " (") ++ (nameAt s (farEnd l n) ++ codes ")"))) []
 
 abbrev pub nodeNote : Plan → ℕ → List ℕ → List ℕ
 nodeNote s n name = codes "# links of " ++ (name ++ (codes ":" ++ (eachFrom (linkNote s n) 0 (s .links) ++ codes "\n")))
