@@ -35,9 +35,9 @@ told : (room : ℕ) (xs : List (List ℕ)) (n : List ℕ) → Told room xs n (en
 told room xs n =
     cond-both (isName n) _ _ (Told room xs n)
     (λ good. cond-both (known n xs) _ _ (Told room xs n) (λ _. tt)
-      (λ new. cond-both (ltb (length xs) room) _ _ (Told room xs n)
-        (λ lt. record { good = good; new = new; room-left = ltb-true _ _ lt; longer = refl })
-        (λ _. tt)))
+    (λ new. cond-both (ltb (length xs) room) _ _ (Told room xs n)
+    (λ lt. record { good = good; new = new; room-left = ltb-true _ _ lt; longer = refl })
+    (λ _. tt)))
     (λ _. tt)
 
 pub enrolled : (room : ℕ) (xs : List (List ℕ)) (n : List ℕ) (ys : List (List ℕ)) → enrol room xs n ≡ Ok ys → Enrolled room xs n ys

@@ -2,7 +2,9 @@
 ghost use mathlib.Core.Path.{_≡_};
 ghost use Prim.Native.Nat.{_≤_};
 ghost use lib.ListN.{length};
+
 mod ops;
+
 use std::alloc::AllocError;
 
 pub struct Table<T, const N: usize> {

@@ -21,7 +21,11 @@ impl Name {
     pub fn from_bytes(bytes: &[u8]) -> Option<Name>
         ensures { λ r. ⌜ mapped spelling r ≡ cond (isName (now (bytes .entry))) (Some (now (bytes .entry))) None ⌝ }
     {
-        if is_name(bytes) { Some(spelled(bytes)) } else { None }
+        if is_name(bytes) {
+            Some(spelled(bytes))
+        } else {
+            None
+        }
     }
 
     pub fn as_bytes(&self) -> &[u8]
@@ -57,7 +61,9 @@ pub fn is_name(bytes: &[u8]) -> bool
 
 // What fills the places of a table that hold no name yet.
 pub(crate) fn unused() -> Name {
-    Name { letters: Table::new(0) }
+    Name {
+        letters: Table::new(0),
+    }
 }
 
 pub(crate) fn spelled(bytes: &[u8]) -> Name

@@ -32,7 +32,9 @@ impl<const N: usize> NameTable<N> {
     pub fn new() -> Self
         ensures { λ r. ⌜ names r ≡ [] ⌝ }
     {
-        NameTable { list: Table::new(naming::unused()) }
+        NameTable {
+            list: Table::new(naming::unused()),
+        }
     }
 
     pub fn len(&self) -> usize

@@ -109,7 +109,13 @@ fn put_links(text: &mut Vec<u8>, site: &Site) -> Result<(), AllocError>
     Ok(())
 }
 
-fn put_user_line(heap: Global, text: &mut Vec<u8>, site: &Site, user: u8, name: &[u8]) -> Result<(), AllocError>
+fn put_user_line(
+    heap: Global,
+    text: &mut Vec<u8>,
+    site: &Site,
+    user: u8,
+    name: &[u8],
+) -> Result<(), AllocError>
     ensures { λ r. ⌜ made r (λ _. Appended (vec-items (now (text .entry))) (userLine (plan (now (site .entry))) user (now (name .entry))) (vec-items (now (text .exit)))) ⌝ }
 {
     let rank = site.rank(user).unwrap_or(0);
@@ -140,7 +146,14 @@ fn reading_line(reading: Reading) -> &'static [u8]
 }
 
 // A link of a node, by its number and the name of the node at its far end.
-fn put_link_note(heap: Global, text: &mut Vec<u8>, site: &Site, node: u8, number: usize, link: Link) -> Result<(), AllocError>
+fn put_link_note(
+    heap: Global,
+    text: &mut Vec<u8>,
+    site: &Site,
+    node: u8,
+    number: usize,
+    link: Link,
+) -> Result<(), AllocError>
     ensures { λ r. ⌜ made r (λ _. Appended (vec-items (now (text .entry))) (linkNote (plan (now (site .entry))) node number link) (vec-items (now (text .exit)))) ⌝ }
 {
     if !link.ends_at(node) {
@@ -163,7 +176,13 @@ fn put_link_notes(heap: Global, text: &mut Vec<u8>, site: &Site, node: u8) -> Re
     Ok(())
 }
 
-fn put_note(heap: Global, text: &mut Vec<u8>, site: &Site, node: u8, name: &[u8]) -> Result<(), AllocError>
+fn put_note(
+    heap: Global,
+    text: &mut Vec<u8>,
+    site: &Site,
+    node: u8,
+    name: &[u8],
+) -> Result<(), AllocError>
     ensures { λ r. ⌜ made r (λ _. Appended (vec-items (now (text .entry))) (nodeNote (plan (now (site .entry))) node (now (name .entry))) (vec-items (now (text .exit)))) ⌝ }
 {
     put(text, b"# links of ")?;

@@ -60,13 +60,13 @@ node-told : (s : Plan) (b : List ℕ) → Told s (field 1 b) (declareNode s b)
 node-told s b =
     on-added s (field 1 b) (withNodes s) (enrol 48 (s .nodes) b)
     (λ xs e. let d = enrolled 48 (s .nodes) b xs e in
-      rw (d .longer) (node s b (d .good, known-absent b (s .nodes) (d .new)) (d .room-left)))
+    rw (d .longer) (node s b (d .good, known-absent b (s .nodes) (d .new)) (d .room-left)))
 
 class-told : (s : Plan) (b : List ℕ) → Told s (field 3 b) (declareClass s b)
 class-told s b =
     on-added s (field 3 b) (withClasses s) (enrol 32 (s .classes) b)
     (λ xs e. let d = enrolled 32 (s .classes) b xs e in
-      rw (d .longer) (class s b (d .good, known-absent b (s .classes) (d .new)) (d .room-left)))
+    rw (d .longer) (class s b (d .good, known-absent b (s .classes) (d .new)) (d .room-left)))
 
 two : (b : List ℕ) → length b ≡ 2 → b ≡ getD b 0 0 ∷ getD b 1 0 ∷ []
 two [] e = absurd (omega arith)
@@ -78,10 +78,10 @@ link-told : (s : Plan) (b : List ℕ) → Told s (field 2 b) (declareLink s b)
 link-told s b =
     cond-both (ltb (length (s .links)) 64) _ _ (Told s (field 2 b))
     (λ lt. cond-both (fitting s b) _ _ (Told s (field 2 b))
-      (λ fit. let p = and-parts _ _ fit in let q = and-parts _ _ (p .1) in let r = and-parts _ _ (q .1) in let t = and-parts _ _ (r .1) in
-        let made = link s (getD b 0 0) (getD b 1 0) (ltb-true _ _ lt) (ltb-true _ _ (q .0)) (ltb-true _ _ (r .0)) (eqb-false _ _ (not-true _ (t .0))) (not-true _ (t .1)) in
-        subst (λ (x : List ℕ). Adds s (field 2 x) (withLink s (record { a = getD b 0 0; b = getD b 1 0 }))) (sym (two b (eqb-true _ _ (p .0)))) made)
-      (λ _. tt))
+    (λ fit. let p = and-parts _ _ fit in let q = and-parts _ _ (p .1) in let r = and-parts _ _ (q .1) in let t = and-parts _ _ (r .1) in
+    let made = link s (getD b 0 0) (getD b 1 0) (ltb-true _ _ lt) (ltb-true _ _ (q .0)) (ltb-true _ _ (r .0)) (eqb-false _ _ (not-true _ (t .0))) (not-true _ (t .1)) in
+    subst (λ (x : List ℕ). Adds s (field 2 x) (withLink s (record { a = getD b 0 0; b = getD b 1 0 }))) (sym (two b (eqb-true _ _ (p .0)))) made)
+    (λ _. tt))
     (λ _. tt)
 
 on-ranked : (s : Plan) (f : Field) (rs : List ℕ) (rank : ℕ) (r : Result (List (List ℕ)) NameFault) → ((xs : List (List ℕ)) → r ≡ Ok xs → 0 < rank → Adds s f (withUsers s xs (rs ++ rank ∷ []))) → Told s f (seating s (ranking rs rank r))
@@ -94,7 +94,7 @@ user-told s [] = tt
 user-told s (r ∷ n) =
     on-ranked s (field 4 (r ∷ n)) (s .ranks) r (enrol 16 (s .users) n)
     (λ xs e pos. let d = enrolled 16 (s .users) n xs e in
-      rw (d .longer) (user s r n (d .good, known-absent n (s .users) (d .new)) (d .room-left) pos))
+    rw (d .longer) (user s r n (d .good, known-absent n (s .users) (d .new)) (d .room-left) pos))
 
 one : (b : List ℕ) → length b ≡ 1 → b ≡ getD b 0 0 ∷ []
 one [] e = absurd (omega arith)
@@ -109,12 +109,12 @@ reading-told : (s : Plan) (b : List ℕ) → Told s (field 5 b) (declareReading 
 reading-told s b =
     cond-both (isSome (s .reading)) _ _ (Told s (field 5 b)) (λ _. tt)
     (λ free. cond-both (eqb (length b) 1) _ _ (λ x. Told s (field 5 b) (setting s x))
-      (λ lone. let is = one b (eqb-true _ _ lone) in
-        cond-both (eqb (getD b 0 0) 1) _ _ (λ x. Told s (field 5 b) (setting s x))
-        (λ e. spelled Implied (is ∙ ap (λ k. k ∷ []) (eqb-true _ _ e)) free)
-        (λ _. cond-both (eqb (getD b 0 0) 2) _ _ (λ x. Told s (field 5 b) (setting s x))
-          (λ e. spelled Spoken (is ∙ ap (λ k. k ∷ []) (eqb-true _ _ e)) free) (λ _. tt)))
-      (λ _. tt))
+    (λ lone. let is = one b (eqb-true _ _ lone) in
+    cond-both (eqb (getD b 0 0) 1) _ _ (λ x. Told s (field 5 b) (setting s x))
+    (λ e. spelled Implied (is ∙ ap (λ k. k ∷ []) (eqb-true _ _ e)) free)
+    (λ _. cond-both (eqb (getD b 0 0) 2) _ _ (λ x. Told s (field 5 b) (setting s x))
+    (λ e. spelled Spoken (is ∙ ap (λ k. k ∷ []) (eqb-true _ _ e)) free) (λ _. tt)))
+    (λ _. tt))
   where
     spelled : (r : Reading) → b ≡ code r ∷ [] → isSome (s .reading) ≡ false → Adds s (field 5 b) (withReading s r)
     spelled r e free = subst (λ (x : List ℕ). Adds s (field 5 x) (withReading s r)) (sym e) (reading s r (unset (s .reading) free))

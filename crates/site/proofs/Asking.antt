@@ -39,8 +39,8 @@ module _ (ls : List Link) (n i : ℕ) (numbers : List ℕ) (h : Found ls n i num
   pub passed : i < length ls → ends (getD ls i nowhere) n ≡ false → Found ls n (i + 1) numbers
   passed lt e = record {
     few = let f = h .few in omega arith;
-    rest = ap (λ l. numbers ++ l) (sym (at-drop-more (λ l. linksFrom i l n) ls i nowhere lt ∙ (rw e))) ∙ h .rest
-    }
+    rest = ap (λ l. numbers ++ l) (sym (at-drop-more (λ l. linksFrom i l n) ls i nowhere lt ∙ (rw e))) ∙ h .rest;
+  }
 
   pub noted : (r : Bool) (after : List ℕ) → i < length ls → length ls ≤ 64 → ends (getD ls i nowhere) n ≡ true → r ≡ ltb (length numbers) 64 → after ≡ cond r (numbers ++ i ∷ []) numbers → Found ls n (i + 1) after
   noted r after lt le e t p =
@@ -49,10 +49,10 @@ module _ (ls : List Link) (n i : ℕ) (numbers : List ℕ) (h : Found ls n i num
       record {
         few = let long = ap length is ∙ length-push numbers i in omega arith;
         rest =
-          ap (λ l. l ++ linksFrom (i + 1) (drop (i + 1) ls) n) is
-          ∙ append-assoc numbers (i ∷ []) (linksFrom (i + 1) (drop (i + 1) ls) n)
-          ∙ ap (λ l. numbers ++ l) (sym (at-drop-more (λ l. linksFrom i l n) ls i nowhere lt ∙ (rw e)))
-          ∙ h .rest
+            ap (λ l. l ++ linksFrom (i + 1) (drop (i + 1) ls) n) is
+            ∙ append-assoc numbers (i ∷ []) (linksFrom (i + 1) (drop (i + 1) ls) n)
+            ∙ ap (λ l. numbers ++ l) (sym (at-drop-more (λ l. linksFrom i l n) ls i nowhere lt ∙ (rw e)))
+            ∙ h .rest;
       }
 
   pub found-all : length ls ≤ i → numbers ≡ linksAt ls n

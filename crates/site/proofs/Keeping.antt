@@ -45,7 +45,7 @@ table-push room xs n t new lt = record {
   few = let long = length-push xs n in omega arith;
   proper = each-push (λ x. isName x ≡ true) [] xs n (t .proper) (new .0);
   distinct = pairs-push (λ x y. x ≡ y) [] xs n (t .distinct) (new .1);
-  }
+}
 
 -- more nodes take nothing from the links
 wider : (n m : ℕ) (ls : List Link) → n ≤ m → Two-ended n ls → Two-ended m ls
@@ -61,34 +61,64 @@ Ends-in n l = (l .a < n) × (l .b < n) × (l .a ≡ l .b → ⊥)
 
 pub adds-keeps : {s : Plan} {f : Field} {t : Plan} → Adds s f t → Kept s → Kept t
 adds-keeps (node s n new lt) h = record {
-  nodes = table-push 48 (s .nodes) n (h .nodes) new lt; classes = h .classes; users = h .users; few-links = h .few-links;
+  nodes = table-push 48 (s .nodes) n (h .nodes) new lt;
+  classes = h .classes;
+  users = h .users;
+  few-links = h .few-links;
   two-ended = wider (length (s .nodes)) _ (s .links) (omega (arith, length-push (s .nodes) n)) (h .two-ended);
-  unrepeated = h .unrepeated; ranked = h .ranked }
+  unrepeated = h .unrepeated;
+  ranked = h .ranked;
+}
 adds-keeps (link s m n lt lm ln ne un) h = record {
-  nodes = h .nodes; classes = h .classes; users = h .users;
+  nodes = h .nodes;
+  classes = h .classes;
+  users = h .users;
   few-links = let long = length-push {X = Link} (s .links) (record { a = m; b = n }) in omega arith;
   two-ended = each-push (Ends-in (length (s .nodes))) nowhere (s .links) (record { a = m; b = n }) (h .two-ended) (lm, ln, ne);
   unrepeated = pairs-push (λ x y. joins x (y .a) (y .b) ≡ true) nowhere (s .links) (record { a = m; b = n }) (h .unrepeated) (λ i li e. both-ways _ (any-false (λ l. joins l m n) (s .links) i un li) e);
-  ranked = h .ranked }
+  ranked = h .ranked;
+}
 adds-keeps (class s n new lt) h = record {
-  nodes = h .nodes; classes = table-push 32 (s .classes) n (h .classes) new lt; users = h .users; few-links = h .few-links;
-  two-ended = h .two-ended; unrepeated = h .unrepeated; ranked = h .ranked }
+  nodes = h .nodes;
+  classes = table-push 32 (s .classes) n (h .classes) new lt;
+  users = h .users;
+  few-links = h .few-links;
+  two-ended = h .two-ended;
+  unrepeated = h .unrepeated;
+  ranked = h .ranked;
+}
 adds-keeps (user s r n new lt pos) h = record {
-  nodes = h .nodes; classes = h .classes; users = table-push 16 (s .users) n (h .users) new lt; few-links = h .few-links;
-  two-ended = h .two-ended; unrepeated = h .unrepeated;
-  ranked = (length-push (s .ranks) r ∙ ap (λ k. k + 1) (h .ranked .0) ∙ sym (length-push (s .users) n), each-push (λ k. 0 < k) 0 (s .ranks) r (h .ranked .1) pos) }
+  nodes = h .nodes;
+  classes = h .classes;
+  users = table-push 16 (s .users) n (h .users) new lt;
+  few-links = h .few-links;
+  two-ended = h .two-ended;
+  unrepeated = h .unrepeated;
+  ranked = (length-push (s .ranks) r ∙ ap (λ k. k + 1) (h .ranked .0) ∙ sym (length-push (s .users) n), each-push (λ k. 0 < k) 0 (s .ranks) r (h .ranked .1) pos);
+}
 adds-keeps (reading s r e) h = record {
-  nodes = h .nodes; classes = h .classes; users = h .users; few-links = h .few-links;
-  two-ended = h .two-ended; unrepeated = h .unrepeated; ranked = h .ranked }
+  nodes = h .nodes;
+  classes = h .classes;
+  users = h .users;
+  few-links = h .few-links;
+  two-ended = h .two-ended;
+  unrepeated = h .unrepeated;
+  ranked = h .ranked;
+}
 
 no-names : (room : ℕ) → Table room []
 no-names room = record { few = omega arith; proper = λ k lt. absurd (omega arith); distinct = λ i j lt lj. absurd (omega arith) }
 
 blank-kept : Kept blank
 blank-kept = record {
-  nodes = no-names 48; classes = no-names 32; users = no-names 16; few-links = omega arith;
-  two-ended = λ k lt. absurd (omega arith); unrepeated = λ i j lt lj. absurd (omega arith);
-  ranked = (refl, λ k lt. absurd (omega arith)) }
+  nodes = no-names 48;
+  classes = no-names 32;
+  users = no-names 16;
+  few-links = omega arith;
+  two-ended = λ k lt. absurd (omega arith);
+  unrepeated = λ i j lt lj. absurd (omega arith);
+  ranked = (refl, λ k lt. absurd (omega arith));
+}
 
 pub declares-keeps : {s : Plan} {fs : List Field} {t : Plan} → Declares s fs t → Kept s → Kept t
 declares-keeps (none s) h = h

@@ -45,7 +45,7 @@ field-told : (p : ℕ) (s : Plan) (bs : List ℕ) → ToldField p s bs (oneField
 field-told p s bs =
     cond-both (ltb (length bs) 3) _ _ (ToldField p s bs) (λ _. tt)
     (λ long. cond-both (ltb (length bs) (span bs)) _ _ (ToldField p s bs) (λ _. tt)
-      (λ all. placed-told p s bs (declare s (front bs)) refl (ltb-false _ _ long) (ltb-false _ _ all)))
+    (λ all. placed-told p s bs (declare s (front bs)) refl (ltb-false _ _ long) (ltb-false _ _ all)))
 
 abbrev ToldFields : Plan → List ℕ → Result Plan Refusal → Type 0
 ToldFields s bs (Ok t) = Spelled s bs t
@@ -59,7 +59,7 @@ one-more s t u bs h r = record {
   said = front bs ∷ r .said;
   spelled = sym (respelled bs (h .three) (h .all) (adds-short (h .adds))) ∙ ap (λ l. encoded (front bs) ++ l) (r .spelled);
   declares = next s t u (front bs) (r .said) (h .adds) (r .declares);
-  }
+}
 
 onward-told : (s : Plan) (bs : List ℕ) (p : ℕ) (go : Plan → Result Plan Refusal) (r : Result Plan Refusal) → ToldField p s bs r → ((t : Plan) → Fronted s bs t → ToldFields t (drop (span bs) bs) (go t)) → ToldFields s bs (onward go r)
 onward-told s bs p go (Ok t) h rest = step (go t) (rest t h)
@@ -74,7 +74,7 @@ fields-told zero p s bs le = no-bytes s bs (omega arith)
 fields-told (suc k) p s bs le =
     cond-both (eqb (length bs) 0) _ _ (ToldFields s bs) (λ z. no-bytes s bs (eqb-true _ _ z))
     (λ _. onward-told s bs p (λ t. fields k (p + span bs) t (drop (span bs) bs)) (oneField p s bs) (field-told p s bs)
-      (λ t h. fields-told k (p + span bs) t (drop (span bs) bs) (let left = length-drop (span bs) bs in let long = h .all in omega arith)))
+    (λ t h. fields-told k (p + span bs) t (drop (span bs) bs) (let left = length-drop (span bs) bs in let long = h .all in omega arith)))
 
 -- fields that can be declared are read
 fields-none : (k p : ℕ) (s : Plan) → fields k p s [] ≡ Ok s
@@ -95,15 +95,16 @@ reads (suc k) p (next s t u f fs a d) le =
     let long = encoded-long f (concat encoded fs) in
     let some : eqb (length (encoded f ++ concat encoded fs)) 0 ≡ false = ne-eqb _ _ (λ z. omega arith) in
     rw some
-      (ap (onward (λ v. fields k (p + span (encoded f ++ concat encoded fs)) v (drop (span (encoded f ++ concat encoded fs)) (encoded f ++ concat encoded fs)))) (field-read p s t f (concat encoded fs) a)
-      ∙ ap (fields k (p + span (encoded f ++ concat encoded fs)) t) (encoded-rest f (concat encoded fs))
-      ∙ reads k (p + span (encoded f ++ concat encoded fs)) d (omega arith))
+    (ap (onward (λ v. fields k (p + span (encoded f ++ concat encoded fs)) v (drop (span (encoded f ++ concat encoded fs)) (encoded f ++ concat encoded fs)))) (field-read p s t f (concat encoded fs) a)
+    ∙ ap (fields k (p + span (encoded f ++ concat encoded fs)) t) (encoded-rest f (concat encoded fs))
+    ∙ reads k (p + span (encoded f ++ concat encoded fs)) d (omega arith))
 
 seal-told : (p : ℕ) (s t : Plan) → seal p s ≡ Ok t → (s ≡ t) × (sealable s ≡ true)
 seal-told p s t e = ⊎-elim (λ y. (just (rw y at e), y)) (λ n. absurd (never (rw n at e))) (cases-bool (sealable s))
   where
     just : _≡_ {A = Result Plan Refusal} (Ok s) (Ok t) → s ≡ t
     just q = cc
+
     never : {c : Refusal} → _≡_ {A = Result Plan Refusal} (Err c) (Ok t) → ⊥
     never q = let z : _≡_ {A = ℕ} 0 1 = cc in omega arith
 

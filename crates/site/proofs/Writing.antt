@@ -30,9 +30,10 @@ then {u = v} {gs = gs} (next s t u f fs a d) e = next s t v f (fs ++ gs) a (then
 new-next : (room : ℕ) (xs : List (List ℕ)) (n : List ℕ) (more : List (List ℕ)) → Table room (xs ++ n ∷ more) → New n xs
 new-next room xs n more t =
     let at = getD-at xs n more [] (length xs) refl in
-    let long = length-append xs (n ∷ more) in
-    (subst (λ (x : List ℕ). isName x ≡ true) at (t .proper (length xs) (omega arith)),
-     λ k lt e. t .distinct k (length xs) lt (omega arith) (getD-append-left xs (n ∷ more) [] k lt ∙ e ∙ sym at))
+    let long = length-append xs (n ∷ more) in (
+      subst (λ (x : List ℕ). isName x ≡ true) at (t .proper (length xs) (omega arith)),
+      λ k lt e. t .distinct k (length xs) lt (omega arith) (getD-append-left xs (n ∷ more) [] k lt ∙ e ∙ sym at),
+    )
 
 room-next : (room : ℕ) (xs : List (List ℕ)) (n : List ℕ) (more : List (List ℕ)) → Table room (xs ++ n ∷ more) → length xs < room
 room-next room xs n more t = let long = length-append xs (n ∷ more) in let few = t .few in omega arith
@@ -43,9 +44,9 @@ names-in put tag room adds xs [] t = subst (λ (l : List (List ℕ)). Declares (
 names-in put tag room adds xs (n ∷ more) t =
     let whole = append-assoc xs (n ∷ []) more in
     next (put xs) (put (xs ++ n ∷ [])) (put (xs ++ n ∷ more)) (field tag n) (map (field tag) more)
-      (adds xs n (new-next room xs n more t) (room-next room xs n more t))
-      (subst (λ (l : List (List ℕ)). Declares (put (xs ++ n ∷ [])) (map (field tag) more) (put l)) whole
-        (names-in put tag room adds (xs ++ n ∷ []) more (subst (Table room) (sym whole) t)))
+    (adds xs n (new-next room xs n more t) (room-next room xs n more t))
+    (subst (λ (l : List (List ℕ)). Declares (put (xs ++ n ∷ [])) (map (field tag) more) (put l)) whole
+    (names-in put tag room adds (xs ++ n ∷ []) more (subst (Table room) (sym whole) t)))
 
 -- the links, declared link by link
 abbrev withLinks : Plan → List Link → Plan
@@ -67,16 +68,16 @@ links-in s xs (l ∷ more) two un few =
     let long = length-append xs (l ∷ more) in
     let ends = subst (λ (x : Link). (x .a < length (s .nodes)) × (x .b < length (s .nodes)) × (x .a ≡ x .b → ⊥)) at (two (length xs) (omega arith)) in
     let fresh : joined xs (l .a) (l .b) ≡ false = any-none (λ x. joins x (l .a) (l .b)) xs
-          (λ i lt e. un i (length xs) lt (omega arith)
-            (ap (λ x. joins x (getD (xs ++ l ∷ more) (length xs) nowhere .a) (getD (xs ++ l ∷ more) (length xs) nowhere .b)) (getD-append-left xs (l ∷ more) nowhere i lt)
-             ∙ ap (λ y. joins (getD xs i nowhere) (y .a) (y .b)) at ∙ e)) in
+    (λ i lt e. un i (length xs) lt (omega arith)
+    (ap (λ x. joins x (getD (xs ++ l ∷ more) (length xs) nowhere .a) (getD (xs ++ l ∷ more) (length xs) nowhere .b)) (getD-append-left xs (l ∷ more) nowhere i lt)
+    ∙ ap (λ y. joins (getD xs i nowhere) (y .a) (y .b)) at ∙ e)) in
     next (withLinks s xs) (withLinks s (xs ++ l ∷ [])) (withLinks s (xs ++ l ∷ more)) (linkField l) (map linkField more)
-      (link (withLinks s xs) (l .a) (l .b) (omega arith) (ends .0) (ends .1) (ends .2) fresh)
-      (subst (λ (ls : List Link). Declares (withLinks s (xs ++ l ∷ [])) (map linkField more) (withLinks s ls)) whole
-        (links-in s (xs ++ l ∷ []) more
-          (subst (Two-ended (length (s .nodes))) (sym whole) two)
-          (subst Unrepeated (sym whole) un)
-          (subst (λ (ls : List Link). length ls ≤ 64) (sym whole) few)))
+    (link (withLinks s xs) (l .a) (l .b) (omega arith) (ends .0) (ends .1) (ends .2) fresh)
+    (subst (λ (ls : List Link). Declares (withLinks s (xs ++ l ∷ [])) (map linkField more) (withLinks s ls)) whole
+    (links-in s (xs ++ l ∷ []) more
+    (subst (Two-ended (length (s .nodes))) (sym whole) two)
+    (subst Unrepeated (sym whole) un)
+    (subst (λ (ls : List Link). length ls ≤ 64) (sym whole) few)))
 
 -- the users, declared user by user
 users-in : (s : Plan) (xs more : List (List ℕ)) (rs ms : List ℕ) → Table 16 (xs ++ more) → length ms ≡ length more → ((k : ℕ) → k < length ms → 0 < getD ms k 0) → Declares (withUsers s xs rs) (userFields more ms) (withUsers s (xs ++ more) (rs ++ ms))
@@ -89,10 +90,10 @@ users-in s xs (u ∷ more) rs (r ∷ ms) t e pos =
     let names = append-assoc xs (u ∷ []) more in
     let ranks = append-assoc rs (r ∷ []) ms in
     next (withUsers s xs rs) (withUsers s (xs ++ u ∷ []) (rs ++ r ∷ [])) (withUsers s (xs ++ u ∷ more) (rs ++ r ∷ ms)) (field 4 (r ∷ u)) (userFields more ms)
-      (user (withUsers s xs rs) r u (new-next 16 xs u more t) (room-next 16 xs u more t) (pos 0 (omega arith)))
-      (subst (λ (l : List (List ℕ)). Declares (withUsers s (xs ++ u ∷ []) (rs ++ r ∷ [])) (userFields more ms) (withUsers s l (rs ++ r ∷ ms))) names
-      (subst (λ (l : List ℕ). Declares (withUsers s (xs ++ u ∷ []) (rs ++ r ∷ [])) (userFields more ms) (withUsers s ((xs ++ u ∷ []) ++ more) l)) ranks
-        (users-in s (xs ++ u ∷ []) more (rs ++ r ∷ []) ms (subst (Table 16) (sym names) t) (omega arith) (λ k lt. pos (suc k) (omega arith)))))
+    (user (withUsers s xs rs) r u (new-next 16 xs u more t) (room-next 16 xs u more t) (pos 0 (omega arith)))
+    (subst (λ (l : List (List ℕ)). Declares (withUsers s (xs ++ u ∷ []) (rs ++ r ∷ [])) (userFields more ms) (withUsers s l (rs ++ r ∷ ms))) names
+    (subst (λ (l : List ℕ). Declares (withUsers s (xs ++ u ∷ []) (rs ++ r ∷ [])) (userFields more ms) (withUsers s ((xs ++ u ∷ []) ++ more) l)) ranks
+    (users-in s (xs ++ u ∷ []) more (rs ++ r ∷ []) ms (subst (Table 16) (sym names) t) (omega arith) (λ k lt. pos (suc k) (omega arith)))))
 
 abbrev setReading : Plan → Option Reading → Plan
 setReading s o = record { nodes = s .nodes; links = s .links; classes = s .classes; users = s .users; ranks = s .ranks; reading = o }

@@ -18,9 +18,13 @@ use fixed::NameTable;
 use fixed::Table;
 
 const NODE: u8 = 1;
+
 const LINK: u8 = 2;
+
 const CLASS: u8 = 3;
+
 const USER: u8 = 4;
+
 const READING: u8 = 5;
 
 impl Draft {
@@ -86,7 +90,10 @@ impl Draft {
             return false;
         };
         let nodes = self.nodes.len();
-        (*a as usize) < nodes && (*b as usize) < nodes && *a != *b && !are_joined(self.links.as_slice(), *a, *b)
+        (*a as usize) < nodes
+            && (*b as usize) < nodes
+            && *a != *b
+            && !are_joined(self.links.as_slice(), *a, *b)
     }
 
     fn declare_reading(&mut self, body: &[u8]) -> Result<(), Cause>

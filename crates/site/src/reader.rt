@@ -23,7 +23,10 @@ pub(crate) fn declare_all(bytes: &[u8]) -> Result<Draft, Refusal>
             [tag, hi, lo, tail @ ..] => {
                 let len = *hi as usize * 256 + *lo as usize;
                 if tail.len() < len {
-                    return Err(Refusal { cause: Cause::CutShort, place: at });
+                    return Err(Refusal {
+                        cause: Cause::CutShort,
+                        place: at,
+                    });
                 }
                 if let Err(cause) = draft.declare(*tag, &tail[0..len]) {
                     return Err(Refusal { cause, place: at });
@@ -31,7 +34,10 @@ pub(crate) fn declare_all(bytes: &[u8]) -> Result<Draft, Refusal>
                 rest = &tail[len..];
                 at += 3 + len;
             }
-            _ => return Err(Refusal { cause: Cause::CutShort, place: at }),
+            _ => return Err(Refusal {
+                cause: Cause::CutShort,
+                place: at,
+            }),
         }
     }
 }
@@ -42,7 +48,10 @@ impl Draft {
         ensures { λ r. ⌜ r ≡ sealable (planOf (now (self .entry))) ⌝ }
     {
         let nodes = self.nodes.len();
-        nodes > 0 && self.classes.len() > 0 && self.users.len() > 0 && are_linked(self.links.as_slice(), nodes as u8)
+        nodes > 0
+            && self.classes.len() > 0
+            && self.users.len() > 0
+            && are_linked(self.links.as_slice(), nodes as u8)
     }
 }
 

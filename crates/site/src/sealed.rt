@@ -3,8 +3,10 @@ ghost use Prim.Native.Nat.{_<_};
 ghost use lib.ListN.{length};
 ghost use Rattle.site.specs.Plans.{planOf};
 ghost use Rattle.site.specs.Promises.{Proper, Distinct, Two-ended, Unrepeated, All-linked, Ranked};
+
 mod lookups;
 mod reading;
+
 use crate::draft::Draft;
 
 #[derive(Drop)]

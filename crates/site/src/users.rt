@@ -3,7 +3,9 @@ ghost use mathlib.Core.Path.{_≡_};
 ghost use lib.ListN.{length};
 ghost use Rattle.fixed.specs.Items.{items};
 ghost use Rattle.fixed.specs.Rosters.{names};
+
 mod adding;
+
 use fixed::NameTable;
 use fixed::Table;
 use fixed::TableClone;

@@ -14,7 +14,10 @@ impl<T: Copy, const N: usize> Table<T, N> {
     pub fn new(fill: T) -> Self
         ensures { λ r. ⌜ items r ≡ [] ⌝ }
     {
-        Table { slots: [fill; N], len: 0 }
+        Table {
+            slots: [fill; N],
+            len: 0,
+        }
     }
 
     pub fn len(&self) -> usize
@@ -34,7 +37,11 @@ impl<T: Copy, const N: usize> Table<T, N> {
     pub fn get(&self, i: usize) -> Option<T>
         ensures { λ r. ⌜ r ≡ nth (items (now (self .entry))) i ⌝ }
     {
-        if i < self.len { Some(self.slots[i]) } else { None }
+        if i < self.len {
+            Some(self.slots[i])
+        } else {
+            None
+        }
     }
 
     // One item more at the end; false, and nothing altered, where there is no room.

@@ -22,7 +22,10 @@ impl Site {
     {
         let draft = reader::declare_all(bytes)?;
         if !draft.is_sealable() {
-            return Err(Refusal { cause: Cause::Unsealable, place: bytes.len() });
+            return Err(Refusal {
+                cause: Cause::Unsealable,
+                place: bytes.len(),
+            });
         }
         Ok(Site { draft })
     }

@@ -18,7 +18,10 @@ impl UserTable {
     pub(crate) fn new() -> Self
         ensures { λ r. ⌜ (names (r .roster) ≡ []) × (items (r .ranks) ≡ []) ⌝ }
     {
-        UserTable { roster: NameTable::new(), ranks: Table::new(0) }
+        UserTable {
+            roster: NameTable::new(),
+            ranks: Table::new(0),
+        }
     }
 
     pub(crate) fn len(&self) -> usize

@@ -19,8 +19,8 @@ loop-rest-holds c = record {
   fuel = length (c .args .bytes .now);
   upto = omega arith;
   enough = omega arith;
-  same = ap (λ s. fields (length (c .args .bytes .now)) 0 s (c .args .bytes .now)) (c .new-draft .ensures)
-  }
+  same = ap (λ s. fields (length (c .args .bytes .now)) 0 s (c .args .bytes .now)) (c .new-draft .ensures);
+}
 
 pub returns-in-empty : need.returns-in-empty
 returns-in-empty c = let none : length (c .loop-rest .rest .now) ≡ 0 = grind arith in ends-here (c .loop-rest .inv) none
@@ -45,9 +45,9 @@ returns-in-Err c =
     let t = length-tail (c .loop-rest .rest .now) in
     let three = long (need.at·returns-in-Err c .In-len3-up) in
     stops (c .loop-rest .inv) _ (omega arith)
-      (judged (c .loop-rest .at) (planOf (c .loop-rest .draft)) (c .loop-rest .rest .now) (omega arith) (omega arith)
-       ∙ ap (λ b. placed (c .loop-rest .at) (declare (planOf (c .loop-rest .draft)) (field (getD (c .loop-rest .rest .now) 0 0) b))) (front-is (c .loop-rest .rest .now) (bodyLength (c .loop-rest .rest .now)))
-       ∙ ap (placed (c .loop-rest .at)) (c .in-Err .ensures tt .declared))
+    (judged (c .loop-rest .at) (planOf (c .loop-rest .draft)) (c .loop-rest .rest .now) (omega arith) (omega arith)
+    ∙ ap (λ b. placed (c .loop-rest .at) (declare (planOf (c .loop-rest .draft)) (field (getD (c .loop-rest .rest .now) 0 0) b))) (front-is (c .loop-rest .rest .now) (bodyLength (c .loop-rest .rest .now)))
+    ∙ ap (placed (c .loop-rest .at)) (c .in-Err .ensures tt .declared))
 
 pub loop-rest-again : need.loop-rest-again
 loop-rest-again c =
@@ -55,6 +55,6 @@ loop-rest-again c =
     let three = long (need.at·loop-rest-again c .In-len3-up) in
     subst (Sofar (c .args .bytes .now) _ (planOf (c .declare .last .self))) (sym (after-is (c .loop-rest .rest .now) (bodyLength (c .loop-rest .rest .now))))
     (one-more (c .loop-rest .inv) (planOf (c .declare .last .self)) (omega arith)
-      (judged (c .loop-rest .at) (planOf (c .loop-rest .draft)) (c .loop-rest .rest .now) (omega arith) (omega arith)
-       ∙ ap (λ b. placed (c .loop-rest .at) (declare (planOf (c .loop-rest .draft)) (field (getD (c .loop-rest .rest .now) 0 0) b))) (front-is (c .loop-rest .rest .now) (bodyLength (c .loop-rest .rest .now)))
-       ∙ ap (placed (c .loop-rest .at)) (c .in-rest-declare .ensures tt .declared)))
+    (judged (c .loop-rest .at) (planOf (c .loop-rest .draft)) (c .loop-rest .rest .now) (omega arith) (omega arith)
+    ∙ ap (λ b. placed (c .loop-rest .at) (declare (planOf (c .loop-rest .draft)) (field (getD (c .loop-rest .rest .now) 0 0) b))) (front-is (c .loop-rest .rest .now) (bodyLength (c .loop-rest .rest .now)))
+    ∙ ap (placed (c .loop-rest .at)) (c .in-rest-declare .ensures tt .declared)))

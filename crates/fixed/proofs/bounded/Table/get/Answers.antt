@@ -11,7 +11,7 @@ pub returns-then-i-self : need.returns-then-i-self
 returns-then-i-self g c =
     let long = length-items (c .args .self .now) in
     sym (nth-getD (items (c .args .self .now)) (c .args .i) (c .index-self-i .result) (omega arith)
-      ∙ ap Some (getD-take (c .args .self .now .len) (c .args .self .now .slots) (c .args .i) (c .index-self-i .result) (omega arith)))
+    ∙ ap Some (getD-take (c .args .self .now .len) (c .args .self .now .slots) (c .args .i) (c .index-self-i .result) (omega arith)))
 
 pub returns-else-i-self : need.returns-else-i-self
 returns-else-i-self g c =

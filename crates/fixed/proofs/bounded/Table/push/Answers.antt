@@ -8,5 +8,5 @@ use Rattle.fixed.proofs.bounded.Table.push.Needs as need
 pub returns-then-self : need.returns-then-self
 returns-then-self g c = record {
   test = sym (lt-ltb _ _ (omega (arith, length-items (c .args .self .now))));
-  items = take-more-set (c .args .self .now .slots) (c .args .self .now .len) (c .args .item) (omega (arith, c .args .self .now .whole))
-  }
+  items = take-more-set (c .args .self .now .slots) (c .args .self .now .len) (c .args .item) (omega (arith, c .args .self .now .whole));
+}

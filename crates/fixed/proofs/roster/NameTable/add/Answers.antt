@@ -12,10 +12,10 @@ use Rattle.fixed.proofs.roster.NameTable.add.Needs as need
 pub returns-then-len : need.returns-then-len
 returns-then-len g c = record {
   added = crowded (g .N) (items (c .args .self .now .list)) (c .args .name .now) (sym (c .if-not-is-name .ensures tt))
-    (ap isSome (sym (c .number .ensures .is)) ∙ sym (c .if-is-some .ensures tt))
-    (omega (arith, c .len .ensures .is, c .if-len .taken));
-  kept = refl
-  }
+      (ap isSome (sym (c .number .ensures .is)) ∙ sym (c .if-is-some .ensures tt))
+      (omega (arith, c .len .ensures .is, c .if-len .taken));
+  kept = refl;
+}
 
 pub returns : need.returns
 returns g c =
@@ -23,7 +23,7 @@ returns g c =
     let pushed = c .push .ensures .items ∙ cond-true (c .push .result) _ _ (c .push .ensures .test ∙ lt-ltb _ _ room) in
     record {
       added = added (g .N) (items (c .args .self .now .list)) (c .args .name .now) (sym (c .if-not-is-name .ensures tt))
-        (ap isSome (sym (c .number .ensures .is)) ∙ sym (c .if-is-some .ensures tt))
-        (c .spelled .result) (items (c .push .last .self)) (c .spelled .ensures) room pushed;
-      kept = tt
-      }
+          (ap isSome (sym (c .number .ensures .is)) ∙ sym (c .if-is-some .ensures tt))
+          (c .spelled .result) (items (c .push .last .self)) (c .spelled .ensures) room pushed;
+      kept = tt;
+    }

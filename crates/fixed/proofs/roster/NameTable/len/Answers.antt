@@ -7,5 +7,5 @@ use Rattle.fixed.proofs.roster.NameTable.len.Needs as need
 pub returns : need.returns
 returns g c = record {
   is = c .len .ensures .is ∙ sym (length-map (items (c .args .self .now .list)) spelling);
-  within = c .len .ensures .within
-  }
+  within = c .len .ensures .within;
+}

@@ -16,14 +16,14 @@ pub returns-then-eq : need.returns-then-eq
 returns-then-eq g c =
     let is = matches-decides _ _ _ (c .eq .ensures) .0 (c .if-eq .taken) in
     let here = seen (c .args .name .now) (c .as-slice-held .result .now) (c .loop-i .i) (c .index-held-i .result) (c .loop-i-test .taken) (c .loop-i .inv)
-      (ap spelling (sym (c .index-held-i .is)) ∙ sym (c .as-bytes .ensures) ∙ is) in
+    (ap spelling (sym (c .index-held-i .is)) ∙ sym (c .as-bytes .ensures) ∙ is) in
     let first = subst (λ (l : List Name). First (c .args .name .now) (map spelling l) (c .loop-i .i)) (c .as-slice-held .ensures) here in
     record { is = sym (first-number _ _ _ first); least = first }
 
 pub loop-i-again : need.loop-i-again
 loop-i-again g c =
     unseen-more (c .args .name .now) (c .as-slice-held .result .now) (c .loop-i .i) (c .index-held-i .result) (c .loop-i-test .taken) (c .loop-i .inv)
-      (λ e. not-from-decides _ (matches-decides _ _ _ (c .eq .ensures)) (c .if-eq .left) (c .as-bytes .ensures ∙ ap spelling (c .index-held-i .is) ∙ e))
+    (λ e. not-from-decides _ (matches-decides _ _ _ (c .eq .ensures)) (c .if-eq .left) (c .as-bytes .ensures ∙ ap spelling (c .index-held-i .is) ∙ e))
 
 pub returns : need.returns
 returns g c =

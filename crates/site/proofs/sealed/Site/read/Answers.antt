@@ -20,8 +20,8 @@ returns-in-Break-draft c =
       read = λ s q. read-says (c .args .bytes .now) s (sym e ∙ q);
       all = λ s h. e ∙ says-read (c .args .bytes .now) s h;
       sound = told-sound (c .from-residual .result) (c .args .bytes .now) e;
-      back = reads-back
-      }
+      back = reads-back;
+    }
 
 pub returns-then-not-is-sealable : need.returns-then-not-is-sealable
 returns-then-not-is-sealable c =
@@ -31,8 +31,8 @@ returns-then-not-is-sealable c =
       read = λ s q. read-says (c .args .bytes .now) s (sym e ∙ q);
       all = λ s h. e ∙ says-read (c .args .bytes .now) s h;
       sound = tt;
-      back = reads-back
-      }
+      back = reads-back;
+    }
 
 -- the map is read as the plan of the draft
 whole : (c : Else-not-is-sealable) → Ok (planOf (c .in-Continue-draft .draft)) ≡ readMap (c .args .bytes .now)
@@ -41,11 +41,34 @@ whole c = sealed (c .args .bytes .now) (planOf (c .in-Continue-draft .draft)) (c
 pub ghost-result : need.ghost-result
 ghost-result c =
     let s : Sound (planOf (c .in-Continue-draft .draft)) = read-sound (c .args .bytes .now) _ (whole (need.at·ghost-result c .Else-not-is-sealable)) in
-    let k = s .kept in
-    (s .some-node, (s .some-class, (s .some-user,
-    (k .nodes .proper, (k .classes .proper, (k .users .proper,
-    (k .nodes .distinct, (k .classes .distinct, (k .users .distinct,
-    (k .two-ended, (k .unrepeated, (s .all-linked, (k .ranked, tt)))))))))))))
+    let k = s .kept in (
+      s .some-node,
+      (
+        s .some-class,
+        (
+          s .some-user,
+          (
+            k .nodes .proper,
+            (
+              k .classes .proper,
+              (
+                k .users .proper,
+                (
+                  k .nodes .distinct,
+                  (
+                    k .classes .distinct,
+                    (
+                      k .users .distinct,
+                      (k .two-ended, (k .unrepeated, (s .all-linked, (k .ranked, tt)))),
+                    ),
+                  ),
+                ),
+              ),
+            ),
+          ),
+        ),
+      ),
+    )
 
 pub returns : need.returns
 returns c =
@@ -55,5 +78,5 @@ returns c =
       read = λ s q. read-says (c .args .bytes .now) s (sym e ∙ q);
       all = λ s h. e ∙ says-read (c .args .bytes .now) s h;
       sound = read-sound (c .args .bytes .now) _ e;
-      back = reads-back
-      }
+      back = reads-back;
+    }

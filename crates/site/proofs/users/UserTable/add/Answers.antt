@@ -28,8 +28,8 @@ taken c = ap (enrol 16 (names (c .args .self .now .roster))) (sym (take-rest (c 
 pub returns-then-rank-eq0 : need.returns-then-rank-eq0
 returns-then-rank-eq0 c = record {
   added = rank-zero (names (c .args .self .now .roster)) (items (c .args .self .now .ranks)) (c .args .body .now) _ (taken (need.at·returns-then-rank-eq0 c .In-Continue-add)) (c .if-rank-eq0 .taken);
-  kept = refl
-  }
+  kept = refl;
+}
 
 pub ghost-self : need.ghost-self
 ghost-self c =
@@ -41,5 +41,5 @@ returns c =
     let is = rank-pushed (items (c .args .self .now .ranks)) (names (c .args .self .now .roster)) (names (c .add .last .self)) (drop 1 (c .args .body .now)) (c .args .self .now .level) t (c .push .result) (items (c .push .last .self)) (getD (c .args .body .now) 0 0) (c .push .ensures .test) (c .push .ensures .items) in
     record {
       added = user-added (names (c .args .self .now .roster)) (items (c .args .self .now .ranks)) (c .args .body .now) (names (c .add .last .self)) t (c .if-rank-eq0 .left) ∙ ap (λ rs. Ok (names (c .add .last .self), rs)) (sym is);
-      kept = tt
-      }
+      kept = tt;
+    }
