@@ -63,7 +63,7 @@ impl<const N: usize> NameTable<N> {
         ensures is { λ r. ⌜ r ≡ numberOf (now (name .entry)) (names (now (self .entry))) ⌝ }
         ensures least { λ r. ⌜ BySome r (Absent (now (name .entry)) (names (now (self .entry)))) (First (now (name .entry)) (names (now (self .entry)))) ⌝ }
     {
-        let held = self.list.as_slice();
+        let held = self.as_slice();
         for (i, each) in held.iter().enumerate() {
             if each.as_bytes() == name {
                 return Some(i);
@@ -85,7 +85,7 @@ impl<const N: usize> NameTable<N> {
         if self.number(name).is_some() {
             return Err(NameFault::Repeated);
         }
-        if self.list.len() >= N {
+        if self.len() >= N {
             return Err(NameFault::Full);
         }
         self.list.push(naming::spelled(name));
