@@ -9,3 +9,5 @@ pub mod Keeping
 pub mod Writing
 pub mod Ending
 pub mod Asking
+pub mod Faulting
+pub mod Stopping

@@ -22,18 +22,18 @@ use Rattle.site.proofs.Encoding.{adds-short, encoded-length, encoded-front, en
 use Rattle.site.proofs.Folds.{judged}
 
 -- the bytes are fields that can be declared from s to t
-record Spelled (s : Plan) (bs : List ℕ) (t : Plan) : Type 0 where
-  said : List Field
-  spelled : bs ≡ concat encoded said
-  declares : Declares s said t
+pub record Spelled (s : Plan) (bs : List ℕ) (t : Plan) : Type 0 where
+  pub said : List Field
+  pub spelled : bs ≡ concat encoded said
+  pub declares : Declares s said t
 
 -- what a whole field at the front came to
-record Fronted (s : Plan) (bs : List ℕ) (t : Plan) : Type 0 where
-  three : 3 ≤ length bs
-  all : span bs ≤ length bs
-  adds : Adds s (front bs) t
+pub record Fronted (s : Plan) (bs : List ℕ) (t : Plan) : Type 0 where
+  pub three : 3 ≤ length bs
+  pub all : span bs ≤ length bs
+  pub adds : Adds s (front bs) t
 
-abbrev ToldField : ℕ → Plan → List ℕ → Result Plan Refusal → Type 0
+abbrev pub ToldField : ℕ → Plan → List ℕ → Result Plan Refusal → Type 0
 ToldField p s bs (Ok t) = Fronted s bs t
 ToldField p s bs (Err e) = Unit {0}
 
@@ -41,13 +41,13 @@ placed-told : (p : ℕ) (s : Plan) (bs : List ℕ) (r : Result Plan Cause) → d
 placed-told p s bs (Ok t) e three all = record { three = three; all = all; adds = declare-adds s (front bs) t e }
 placed-told p s bs (Err c) e three all = tt
 
-field-told : (p : ℕ) (s : Plan) (bs : List ℕ) → ToldField p s bs (oneField p s bs)
+pub field-told : (p : ℕ) (s : Plan) (bs : List ℕ) → ToldField p s bs (oneField p s bs)
 field-told p s bs =
     cond-both (ltb (length bs) 3) _ _ (ToldField p s bs) (λ _. tt)
     (λ long. cond-both (ltb (length bs) (span bs)) _ _ (ToldField p s bs) (λ _. tt)
     (λ all. placed-told p s bs (declare s (front bs)) refl (ltb-false _ _ long) (ltb-false _ _ all)))
 
-abbrev ToldFields : Plan → List ℕ → Result Plan Refusal → Type 0
+abbrev pub ToldFields : Plan → List ℕ → Result Plan Refusal → Type 0
 ToldFields s bs (Ok t) = Spelled s bs t
 ToldFields s bs (Err e) = Unit {0}
 
@@ -69,7 +69,7 @@ onward-told s bs p go (Ok t) h rest = step (go t) (rest t h)
     step (Err e) q = tt
 onward-told s bs p go (Err e) h rest = tt
 
-fields-told : (k p : ℕ) (s : Plan) (bs : List ℕ) → length bs ≤ k → ToldFields s bs (fields k p s bs)
+pub fields-told : (k p : ℕ) (s : Plan) (bs : List ℕ) → length bs ≤ k → ToldFields s bs (fields k p s bs)
 fields-told zero p s bs le = no-bytes s bs (omega arith)
 fields-told (suc k) p s bs le =
     cond-both (eqb (length bs) 0) _ _ (ToldFields s bs) (λ z. no-bytes s bs (eqb-true _ _ z))

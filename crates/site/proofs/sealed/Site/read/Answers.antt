@@ -7,6 +7,7 @@ use Rattle.site.specs.Promises.{Sound}
 use Rattle.site.specs.Sites.{told}
 use Rattle.site.proofs.Ending.{fields-refused, unsealed, sealed, read-sound, told-sound}
 use Rattle.site.proofs.Saying.{read-says, says-read}
+use Rattle.site.proofs.Stopping.{read-refuses}
 use Rattle.site.proofs.Writing.{reads-back}
 use Rattle.site.proofs.sealed.Site.read.Needs as need
 use Rattle.site.proofs.sealed.Site.read.Needs.{Else-not-is-sealable}
@@ -19,6 +20,7 @@ returns-in-Break-draft c =
       defined = e;
       read = λ s q. read-says (c .args .bytes .now) s (sym e ∙ q);
       all = λ s h. e ∙ says-read (c .args .bytes .now) s h;
+      refused = λ f q. read-refuses (c .args .bytes .now) f (sym e ∙ q);
       sound = told-sound (c .from-residual .result) (c .args .bytes .now) e;
       back = reads-back;
     }
@@ -30,6 +32,7 @@ returns-then-not-is-sealable c =
       defined = e;
       read = λ s q. read-says (c .args .bytes .now) s (sym e ∙ q);
       all = λ s h. e ∙ says-read (c .args .bytes .now) s h;
+      refused = λ f q. read-refuses (c .args .bytes .now) f (sym e ∙ q);
       sound = tt;
       back = reads-back;
     }
@@ -77,6 +80,7 @@ returns c =
       defined = e;
       read = λ s q. read-says (c .args .bytes .now) s (sym e ∙ q);
       all = λ s h. e ∙ says-read (c .args .bytes .now) s h;
+      refused = λ f q. read-refuses (c .args .bytes .now) f (sym e ∙ q);
       sound = read-sound (c .args .bytes .now) _ e;
       back = reads-back;
     }
