@@ -112,10 +112,10 @@ module _ (s : Plan) (bs : List ℕ) (three : 3 ≤ length bs) (all : span bs ≤
     why-name =
         cond-both (isName n) _ _ Why
         (λ good. cond-both (known n xs) _ _ Why
-          (λ old. record { applies = named-before room xs n at old; smallest = λ d a. name-bound s bs three all 4 room xs n at (λ e. absurd (both-ways _ e good)) (λ _. omega arith) (λ _. omega arith) (omega arith) a })
-          (λ new. cond-both (ltb (length xs) room) _ _ Why
-            (λ lt. (good, new, ltb-true _ _ lt))
-            (λ ge. record { applies = no-room-for-name room xs n at (ltb-false _ _ ge); smallest = λ d a. name-bound s bs three all 5 room xs n at (λ e. absurd (both-ways _ e good)) (λ e. absurd (both-ways _ new e)) (λ _. omega arith) (omega arith) a })))
+        (λ old. record { applies = named-before room xs n at old; smallest = λ d a. name-bound s bs three all 4 room xs n at (λ e. absurd (both-ways _ e good)) (λ _. omega arith) (λ _. omega arith) (omega arith) a })
+        (λ new. cond-both (ltb (length xs) room) _ _ Why
+        (λ lt. (good, new, ltb-true _ _ lt))
+        (λ ge. record { applies = no-room-for-name room xs n at (ltb-false _ _ ge); smallest = λ d a. name-bound s bs three all 5 room xs n at (λ e. absurd (both-ways _ e good)) (λ e. absurd (both-ways _ new e)) (λ _. omega arith) (omega arith) a })))
         (λ bad. record { applies = misspelled room xs n at bad; smallest = λ d a. name-bound s bs three all 3 room xs n at (λ _. omega arith) (λ _. omega arith) (λ _. omega arith) (omega arith) a })
 
     why-added : (into : List (List ℕ) → Plan) (r : Result (List (List ℕ)) NameFault) → Why r → Says-why s bs (adding into r)
@@ -133,7 +133,7 @@ module _ (s : Plan) (bs : List ℕ) (three : 3 ≤ length bs) (all : span bs ≤
   why-link t =
       cond-both (ltb (length (s .links)) 64) _ _ (Says-why s bs)
       (λ lt. cond-both (fitting s (front bs .body)) _ _ (Says-why s bs) (λ _. tt)
-        (λ bad. record { applies = unfit-link t bad; smallest = λ d a. link-bound s bs three all 6 t (λ g. let l = ltb-true _ _ lt in absurd (omega arith)) (λ _. omega arith) a }))
+      (λ bad. record { applies = unfit-link t bad; smallest = λ d a. link-bound s bs three all 6 t (λ g. let l = ltb-true _ _ lt in absurd (omega arith)) (λ _. omega arith) a }))
       (λ ge. record { applies = no-room-for-link t (ltb-false _ _ ge); smallest = λ d a. link-bound s bs three all 5 t (λ _. omega arith) (λ _. omega arith) a })
 
   why-setting : front bs .tag ≡ 5 → (o : Option Reading) → readingOf (front bs .body) ≡ o → Says-why s bs (setting s o)
@@ -158,9 +158,9 @@ module _ (s : Plan) (bs : List ℕ) (three : 3 ≤ length bs) (all : span bs ≤
       (λ e. let at = a-node (eqb-true _ _ e) in why-added 48 (s .nodes) (front bs .body) at (withNodes s) (enrol 48 (s .nodes) (front bs .body)) (why-name 48 (s .nodes) (front bs .body) at))
       (λ n₁. cond-both (eqb (front bs .tag) 2) _ _ (Says-why s bs) (λ e. why-link (eqb-true _ _ e))
       (λ n₂. cond-both (eqb (front bs .tag) 3) _ _ (Says-why s bs)
-        (λ e. let at = a-class (eqb-true _ _ e) in why-added 32 (s .classes) (front bs .body) at (withClasses s) (enrol 32 (s .classes) (front bs .body)) (why-name 32 (s .classes) (front bs .body) at))
+      (λ e. let at = a-class (eqb-true _ _ e) in why-added 32 (s .classes) (front bs .body) at (withClasses s) (enrol 32 (s .classes) (front bs .body)) (why-name 32 (s .classes) (front bs .body) at))
       (λ n₃. cond-both (eqb (front bs .tag) 4) _ _ (Says-why s bs)
-        (λ e. let at = a-user (eqb-true _ _ e) in why-ranked 16 (s .users) (drop 1 (front bs .body)) at (eqb-true _ _ e) (s .ranks) (enrol 16 (s .users) (drop 1 (front bs .body))) (why-name 16 (s .users) (drop 1 (front bs .body)) at))
+      (λ e. let at = a-user (eqb-true _ _ e) in why-ranked 16 (s .users) (drop 1 (front bs .body)) at (eqb-true _ _ e) (s .ranks) (enrol 16 (s .users) (drop 1 (front bs .body))) (why-name 16 (s .users) (drop 1 (front bs .body)) at))
       (λ n₄. cond-both (eqb (front bs .tag) 5) _ _ (Says-why s bs) (λ e. why-reading (eqb-true _ _ e))
       (λ n₅. why-unknown (no-tag (front bs .tag) (eqb-false _ _ n₁) (eqb-false _ _ n₂) (eqb-false _ _ n₃) (eqb-false _ _ n₄) (eqb-false _ _ n₅)))))))
 
@@ -192,5 +192,5 @@ field-why p s bs =
     cond-both (ltb (length bs) 3) _ _ (Field-why p s bs)
     (λ lt. (refl, record { applies = ends-in-head (ltb-true _ _ lt); smallest = λ d a. first-number s bs a }))
     (λ three. cond-both (ltb (length bs) (span bs)) _ _ (Field-why p s bs)
-      (λ lt. (refl, record { applies = ends-in-body (ltb-true _ _ lt); smallest = λ d a. first-number s bs a }))
-      (λ all. placed-why p s bs (declare s (front bs)) (why s bs (ltb-false _ _ three) (ltb-false _ _ all))))
+    (λ lt. (refl, record { applies = ends-in-body (ltb-true _ _ lt); smallest = λ d a. first-number s bs a }))
+    (λ all. placed-why p s bs (declare s (front bs)) (why s bs (ltb-false _ _ three) (ltb-false _ _ all))))

@@ -44,7 +44,7 @@ here s p bs (Err e) some w = record { said = []; rest = bs; t = s; whole = refl;
 
 later : (s u : Plan) (p : ℕ) (bs : List ℕ) (r : Result Plan Refusal) → Fronted s bs u → Stops u (p + span bs) (drop (span bs) bs) r → Stops s p bs r
 later s u p bs (Ok t) f h = tt
-later s u p bs (Err e) f h = 
+later s u p bs (Err e) f h =
     let spelt = respelled bs (f .three) (f .all) (adds-short (f .adds)) in
     let whole = sym spelt ∙ ap (λ l. encoded (front bs) ++ l) (h .whole) ∙ sym (append-assoc (encoded (front bs)) (concat encoded (h .said)) (h .rest)) in
     let long = ap length spelt in
@@ -54,9 +54,15 @@ later s u p bs (Err e) f h =
     let all = f .all in
     let place = h .at in
     record {
-      said = front bs ∷ h .said; rest = h .rest; t = h .t; whole = whole;
+      said = front bs ∷ h .said;
+      rest = h .rest;
+      t = h .t;
+      whole = whole;
       declares = next s u (h .t) (front bs) (h .said) (f .adds) (h .declares);
-      at = omega arith; some = h .some; told = h .told }
+      at = omega arith;
+      some = h .some;
+      told = h .told;
+    }
 
 onward-stops : (s : Plan) (p : ℕ) (bs : List ℕ) (go : Plan → Result Plan Refusal) (r : Result Plan Refusal) → 0 < length bs → ToldField p s bs r → Field-why p s bs r → ((u : Plan) → Fronted s bs u → Stops u (p + span bs) (drop (span bs) bs) (go u)) → Stops s p bs (onward go r)
 onward-stops s p bs go (Ok u) some f w rest = later s u p bs (go u) f (rest u f)
@@ -67,14 +73,15 @@ fields-stop zero p s bs le = tt
 fields-stop (suc k) p s bs le =
     cond-both (eqb (length bs) 0) _ _ (Stops s p bs) (λ _. tt)
     (λ z. let ne = eqb-false (length bs) 0 z in
-      onward-stops s p bs (λ t. fields k (p + span bs) t (drop (span bs) bs)) (oneField p s bs) (omega (arith, ne)) (field-told p s bs) (field-why p s bs)
-      (λ u f. fields-stop k (p + span bs) u (drop (span bs) bs) (let left = length-drop (span bs) bs in let long = f .all in omega arith)))
+    onward-stops s p bs (λ t. fields k (p + span bs) t (drop (span bs) bs)) (oneField p s bs) (omega (arith, ne)) (field-told p s bs) (field-why p s bs)
+    (λ u f. fields-stop k (p + span bs) u (drop (span bs) bs) (let left = length-drop (span bs) bs in let long = f .all in omega arith)))
 
 seal-stops : (bs : List ℕ) (s : Plan) (e : Refusal) → Spelled blank bs s → seal (length bs) s ≡ Err e → Refuses bs (e .cause) (e .place)
 seal-stops bs s e h q = ⊎-elim (λ y. absurd (never (rw y at q))) (λ n. sealed (rw n at q) n) (cases-bool (sealable s))
   where
     never : _≡_ {A = Result Plan Refusal} (Ok s) (Err e) → ⊥
     never x = let z : _≡_ {A = ℕ} 0 1 = cc in omega arith
+
     sealed : _≡_ {A = Result Plan Refusal} (Err (record { cause = Unsealable; place = length bs })) (Err e) → sealable s ≡ false → Refuses bs (e .cause) (e .place)
     sealed x n =
         let same : record { cause = Unsealable; place = length bs } ≡ e = cc in
