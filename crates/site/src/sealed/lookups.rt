@@ -127,7 +127,7 @@ impl Site {
     pub fn links_of(&self, node: u8) -> Table<u8, 64>
         ensures { λ r. ⌜ items r ≡ linksAt (plan (now (self .entry)) .links) node ⌝ }
     {
-        let links = self.draft.links.as_slice();
+        let links = self.links();
         let mut numbers = Table::new(0);
         for (i, link) in links.iter().enumerate() {
             if link.ends_at(node) {

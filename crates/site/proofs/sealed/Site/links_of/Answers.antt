@@ -14,20 +14,20 @@ use Rattle.site.proofs.sealed.Site.links_of.Needs.{then-ends-at, else-ends-at}
 pub loop-i-holds : need.loop-i-holds
 loop-i-holds c = record {
   few = omega (arith, ap length (c .new-numbers .ensures));
-  rest = ap (λ l. l ++ linksAt (c .as-slice-links .result .now) (c .args .node)) (c .new-numbers .ensures);
+  rest = ap (λ l. l ++ linksAt (c .links-links .result .now) (c .args .node)) (c .new-numbers .ensures);
 }
 
 pub loop-i-again : need.loop-i-again
 loop-i-again c =
-    let few : length (c .as-slice-links .result .now) ≤ 64 = omega (arith, ap length (c .as-slice-links .ensures), items-within (c .args .self .now .draft .links)) in
+    let few : length (c .links-links .result .now) ≤ 64 = omega (arith, ap length (c .links-links .ensures), items-within (c .args .self .now .draft .links)) in
     elim (c .if-ends-at .came) [
-      | then-ends-at w ↦ subst (λ (t : _). Found (c .as-slice-links .result .now) (c .args .node) (c .loop-i .i + 1) (items t)) (sym (w .numbers-is))
-          (noted (c .as-slice-links .result .now) (c .args .node) (c .loop-i .i) (items (c .loop-i .numbers)) (c .loop-i .inv) (w .push .result) (items (w .push .last .self)) (c .loop-i-test .taken) few (sym (c .ends-at .ensures) ∙ w .if-ends-at .taken) (w .push .ensures .test) (w .push .ensures .items))
-      | else-ends-at w ↦ subst (λ (t : _). Found (c .as-slice-links .result .now) (c .args .node) (c .loop-i .i + 1) (items t)) (sym (w .numbers-is))
-          (passed (c .as-slice-links .result .now) (c .args .node) (c .loop-i .i) (items (c .loop-i .numbers)) (c .loop-i .inv) (c .loop-i-test .taken) (sym (c .ends-at .ensures) ∙ w .if-ends-at .left))
+      | then-ends-at w ↦ subst (λ (t : _). Found (c .links-links .result .now) (c .args .node) (c .loop-i .i + 1) (items t)) (sym (w .numbers-is))
+          (noted (c .links-links .result .now) (c .args .node) (c .loop-i .i) (items (c .loop-i .numbers)) (c .loop-i .inv) (w .push .result) (items (w .push .last .self)) (c .loop-i-test .taken) few (sym (c .ends-at .ensures) ∙ w .if-ends-at .taken) (w .push .ensures .test) (w .push .ensures .items))
+      | else-ends-at w ↦ subst (λ (t : _). Found (c .links-links .result .now) (c .args .node) (c .loop-i .i + 1) (items t)) (sym (w .numbers-is))
+          (passed (c .links-links .result .now) (c .args .node) (c .loop-i .i) (items (c .loop-i .numbers)) (c .loop-i .inv) (c .loop-i-test .taken) (sym (c .ends-at .ensures) ∙ w .if-ends-at .left))
     ]
 
 pub returns : need.returns
 returns c =
-    found-all (c .as-slice-links .result .now) (c .args .node) (c .loop-i .i) (items (c .loop-i .numbers)) (c .loop-i .inv) (c .loop-i-test .left)
-    ∙ ap (λ l. linksAt l (c .args .node)) (c .as-slice-links .ensures)
+    found-all (c .links-links .result .now) (c .args .node) (c .loop-i .i) (items (c .loop-i .numbers)) (c .loop-i .inv) (c .loop-i-test .left)
+    ∙ ap (λ l. linksAt l (c .args .node)) (c .links-links .ensures)
