@@ -11,3 +11,4 @@ pub mod Together
 pub mod Names
 pub mod Spelled
 pub mod Dotted
+pub mod Shown

@@ -38,6 +38,7 @@ pub record Given (a b : Address) (p : List ℕ) : Type 0 where
 abbrev pub added : Address → Bool → Block → Taking Address
 added a x b = cond (ltb (a .count) 8) (became (record { count = a .count + 1; slots = set (a .slots) (a .count) (record { excluded = x; block = b }) })) bad-value
 
+-- `==` asks for a block and `!=` excludes one; other signs and bad values do neither
 abbrev pub listed : Address → Sign → Option Block → Taking Address
 listed a s None = bad-value
 listed a Equal (Some b) = added a false b

@@ -15,8 +15,8 @@ use Rattle.kind.specs.declared.block.Part.{Part}
 use Rattle.kind.specs.declared.block.Part.the-variants.{Star, Number}
 use Rattle.kind.specs.Digits.{number, Writes}
 
--- a block numbers its first parts, as many as its depth; the other parts are stars
--- at a part, a block has a star or the number of the address
+-- a block numbers its first parts, as many as its depth, and the others are stars;
+-- at a part, it has a star or the number of the address
 abbrev pub at-part : Block → List ℕ → ℕ → Bool
 at-part b p i = leb (b .depth) i || eqb (getD (b .parts) i 0) (getD p i 0)
 
@@ -31,45 +31,6 @@ names b i v = ltb i (b .depth) && eqb (getD (b .parts) i 0) v
 -- the block of all addresses
 abbrev pub everything : Block
 everything = record { depth = 0; parts = replicate 4 0 }
-
--- goes on from what was read, if anything was
-abbrev pub onward : {X Y : Type 0} → Option X → (X → Option Y) → Option Y
-onward None go = None
-onward (Some x) go = go x
-
--- a number of a part is at most 255
-abbrev pub byte-from : Option ℕ → Option Part
-byte-from None = None
-byte-from (Some n) = cond (leb n 255) (Some (Number n)) None
-
--- a part is a star, or a number in one to three digits
-abbrev pub part-of : List ℕ → Option Part
-part-of t = cond (sameBytes t (codes "*")) (Some Star) (cond (ltb 3 (length t)) None (byte-from (number t)))
-
--- a block with its part at a place: only stars follow a star
-abbrev pub with-part : Block → ℕ → Part → Option Block
-with-part b i Star = Some b
-with-part b i (Number n) = cond (eqb (b .depth) i) (Some (record { depth = i + 1; parts = set (b .parts) i n })) None
-
--- a block with the part that a text writes at a place
-abbrev pub with-text : Block → ℕ → List ℕ → Option Block
-with-text b i t = onward (part-of t) (with-part b i)
-
--- the text before the first dot, and the text after it
-abbrev pub no-dot : ℕ → Bool
-no-dot c = not (eqb c 46)
-
-abbrev pub cut : List ℕ → Option (List ℕ × List ℕ)
-cut t = cond (ltb (leading no-dot t) (length t)) (Some (take (leading no-dot t) t, drop (leading no-dot t + 1) t)) None
-
--- the parts from a place on: n of them with a dot after each, then the last
-abbrev pub block-from : ℕ → ℕ → Block → List ℕ → Option Block
-block-from zero i b t = with-text b i t
-block-from (suc n) i b t = onward (cut t) (λ c. onward (with-text b i (c .0)) (λ d. block-from n (i + 1) d (c .1)))
-
--- the block that a value writes: four parts joined by dots
-abbrev pub block-of : List ℕ → Option Block
-block-of t = block-from 3 0 everything t
 
 -- a text writes a part of a block: a number up to 255 in one to three digits where the block is numbered, else a star
 pub record Writes-part (b : Block) (i : ℕ) (t : List ℕ) : Type 0 where
@@ -94,3 +55,43 @@ pub record Writes-block (v : List ℕ) (b : Block) : Type 0 where
   pub part-2 : Writes-part b 2 third
   pub part-3 : Writes-part b 3 fourth
   pub tidy : Tidy b
+
+-- goes on from what was read, if anything was
+abbrev pub onward : {X Y : Type 0} → Option X → (X → Option Y) → Option Y
+onward None go = None
+onward (Some x) go = go x
+
+-- a number of a part is at most 255
+abbrev pub byte-from : Option ℕ → Option Part
+byte-from None = None
+byte-from (Some n) = cond (leb n 255) (Some (Number n)) None
+
+-- a part is a star, or a number in one to three digits
+abbrev pub part-of : List ℕ → Option Part
+part-of t = cond (sameBytes t (codes "*")) (Some Star) (cond (ltb 3 (length t)) None (byte-from (number t)))
+
+-- a block with its part at a place: only stars follow a star
+abbrev pub with-part : Block → ℕ → Part → Option Block
+with-part b i Star = Some b
+with-part b i (Number n) = cond (eqb (b .depth) i) (Some (record { depth = i + 1; parts = set (b .parts) i n })) None
+
+-- a block with the part that a text writes at a place
+abbrev pub with-text : Block → ℕ → List ℕ → Option Block
+with-text b i t = onward (part-of t) (with-part b i)
+
+-- a byte is not a dot
+abbrev pub no-dot : ℕ → Bool
+no-dot c = not (eqb c 46)
+
+-- the text before the first dot, and the text after it
+abbrev pub cut : List ℕ → Option (List ℕ × List ℕ)
+cut t = cond (ltb (leading no-dot t) (length t)) (Some (take (leading no-dot t) t, drop (leading no-dot t + 1) t)) None
+
+-- the parts from a place on: n of them with a dot after each, then the last
+abbrev pub block-from : ℕ → ℕ → Block → List ℕ → Option Block
+block-from zero i b t = with-text b i t
+block-from (suc n) i b t = onward (cut t) (λ c. onward (with-text b i (c .0)) (λ d. block-from n (i + 1) d (c .1)))
+
+-- the block that a value writes: four parts joined by dots
+abbrev pub block-of : List ℕ → Option Block
+block-of t = block-from 3 0 everything t

@@ -9,12 +9,12 @@ use Rattle.std.specs.declared.option.Option.the-variants.{Some, None}
 use Rattle.kind.specs.declared.entry.Entry.{Entry}
 use Rattle.kind.specs.Entries.{fixes, excludes}
 
--- the number that the first such `==` gives a part
+-- the number of a part in the first `==` that numbers it
 abbrev pub fixed-at : ℕ → List Entry → Option ℕ
 fixed-at i [] = None
 fixed-at i (e ∷ es) = cond (fixes i e) (Some (getD (e .block .parts) i 0)) (fixed-at i es)
 
--- some `!=` has that number there
+-- some `!=` has a certain number at a part
 abbrev pub excluded-at : ℕ → ℕ → List Entry → Bool
 excluded-at i v [] = false
 excluded-at i v (e ∷ es) = excludes i v e || excluded-at i v es
@@ -24,11 +24,12 @@ pub record Least-free (i : ℕ) (es : List Entry) (v : ℕ) : Type 0 where
   pub free : excluded-at i v es ≡ false
   pub least : (u : ℕ) → u < v → excluded-at i u es ≡ true
 
--- a fixed part keeps its value; a free part takes the least free one
+-- the value of a part: the number that fixes it, or else the least free one
 abbrev pub Kept : Option ℕ → ℕ → List Entry → ℕ → Type 0
 Kept (Some w) i es v = v ≡ w
 Kept None i es v = Least-free i es v
 
+-- a fixed part keeps its value; a free part takes the least free one
 abbrev pub Part-of : List Entry → ℕ → ℕ → Type 0
 Part-of es i v = Kept (fixed-at i es) i es v
 

@@ -15,7 +15,7 @@ use Rattle.kind.specs.declared.comparison.Sign.the-variants.{Equal, NotEqual, 
 use Rattle.kind.specs.Sense.{Sense, Least}
 use Rattle.kind.specs.Taking.{Taking, became, not-mine, bad-value}
 
--- the days, from Monday, day 0, to Sunday, day 6
+-- the names of the days, from Monday, day 0, to Sunday, day 6
 abbrev pub day-name : ℕ → List ℕ
 day-name d =
     cond (eqb d 0) (codes "Monday")
@@ -25,7 +25,7 @@ day-name d =
     (cond (eqb d 4) (codes "Friday")
     (cond (eqb d 5) (codes "Saturday") (codes "Sunday"))))))
 
--- the first of n days from day d on that has a name
+-- the first of n days, from day d on, whose name it is
 abbrev pub named-from : ℕ → ℕ → List ℕ → Option ℕ
 named-from zero d v = None
 named-from (suc n) d v = cond (sameBytes v (day-name d)) (Some d) (named-from n (d + 1) v)
@@ -53,6 +53,7 @@ left c p = week-day p && getD (c .days) p false
 abbrev pub narrowed : Sign → ℕ → List Bool → List Bool
 narrowed s d days = map (λ p. getD days p false && stands-to s p d) (counting 0 7)
 
+-- a comparison with a day narrows the set; another value is bad
 abbrev pub compared : Day → Sign → Option ℕ → Taking Day
 compared c s None = bad-value
 compared c s (Some d) = became (record { days = narrowed s d (c .days) })

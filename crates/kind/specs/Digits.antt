@@ -18,13 +18,13 @@ digit b = leb 48 b && leb b 57
 abbrev pub decimal : List ℕ → ℕ
 decimal bs = folded (λ n b. 10 * n + (b - 48)) 0 bs
 
--- the number that one to four digits write; other bytes write none
-abbrev pub number : List ℕ → Option ℕ
-number bs = cond (eqb (length bs) 0 || (ltb 4 (length bs) || ltb (leading digit bs) (length bs))) None (Some (decimal bs))
-
 -- one to four digits write a number
 pub record Writes (t : List ℕ) (n : ℕ) : Type 0 where
   pub some : 0 < length t
   pub few : length t ≤ 4
   pub digits : leading digit t ≡ length t
   pub value : decimal t ≡ n
+
+-- the number that one to four digits write; other bytes write none
+abbrev pub number : List ℕ → Option ℕ
+number bs = cond (eqb (length bs) 0 || (ltb 4 (length bs) || ltb (leading digit bs) (length bs))) None (Some (decimal bs))

@@ -2,8 +2,8 @@
 use mathlib.Core.Path.{_≡_}
 use mathlib.Core.Bool.{Bool, not, _&&_, cond}
 use mathlib.Core.List.{List}
-use Prim.Native.Nat.{ℕ, _<_}
-use lib.ListN.{length}
+use Prim.Native.Nat.{ℕ, _<_, _≤_}
+use lib.ListN.{length, getD}
 use Rattle.std.specs.declared.option.Option.the-variants.{Some, None}
 use Rattle.kind.specs.declared.address.Address.{Address}
 use Rattle.kind.specs.declared.block.Block.{Block}
@@ -15,10 +15,11 @@ use Rattle.kind.specs.declared.day.Day.{Day}
 use Rattle.kind.specs.Addresses.{in-set, added, address-sense}
 use Rattle.kind.specs.Blocks.{covers, block-of, Writes-block}
 use Rattle.kind.specs.Days.{left, stands-to, compared, day-name, day-of, day-sense}
+use Rattle.kind.specs.Labels.{address-text}
 use Rattle.kind.specs.Pairs.{pair-sense}
 use Rattle.kind.specs.Sense.{Sense, Laws, One-given}
 use Rattle.kind.specs.Taking.{after}
-use Rattle.kind.specs.Times.{second-of, Writes-time}
+use Rattle.kind.specs.Times.{second-of, Writes-time, clock-text}
 use Rattle.kind.specs.Windows.{from, to, between, second-of-day, in-window, bounded, clock-sense}
 
 -- the meaning of the pile
@@ -40,6 +41,8 @@ pub record Pile-laws : Type 0 where
   pub ends-at : (c : Clock) (s p : ℕ) → c .upper ≡ None → in-window (after c (bounded c AtMost (Some s))) p ≡ (second-of-day p && between (from c) s p)
   -- a value is read as a second of the day exactly when it writes that second
   pub times-read : (v : List ℕ) (s : ℕ) → Exactly (second-of v ≡ Some s) (Writes-time v s)
+  -- the text of a second writes that second
+  pub times-shown : (p : ℕ) → p < 86400 → Writes-time (clock-text p) p
   -- comparisons of days hold together
   pub days-together : (c : Day) (s : Sign) (d p : ℕ) → left (after c (compared c s (Some d))) p ≡ (left c p && stands-to s p d)
   -- a value is read as a day exactly when it is that day's name
@@ -48,3 +51,5 @@ pub record Pile-laws : Type 0 where
   pub addresses-together : (a : Address) (x : Bool) (b : Block) (p : List ℕ) → a .count < 8 → length (a .slots) ≡ 8 → in-set (after a (added a x b)) p ≡ (in-set a p && cond x (not (covers b p)) (covers b p))
   -- a value is read as a block exactly when it writes that block
   pub blocks-read : (v : List ℕ) (b : Block) → Exactly (block-of v ≡ Some b) (Writes-block v b)
+  -- the text of an address writes the block of that address alone
+  pub addresses-shown : (p : List ℕ) → length p ≡ 4 → ((i : ℕ) → i < 4 → getD p i 0 ≤ 255) → Writes-block (address-text p) (record { depth = 4; parts = p })

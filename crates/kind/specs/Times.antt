@@ -9,6 +9,11 @@ use Rattle.std.specs.declared.option.Option.{Option}
 use Rattle.std.specs.declared.option.Option.the-variants.{Some, None}
 use Rattle.kind.specs.Digits.{number, Writes}
 
+-- a value writes a second of the day: hour and minute in one to four digits, then perhaps a colon and the second in two
+pub data Writes-time : List ℕ → ℕ → Type 0 where
+  to-the-minute : (t : List ℕ) (h m : ℕ) → Writes t (100 * h + m) → h < 24 → m < 60 → Writes-time t (60 * (60 * h + m))
+  to-the-second : (t u : List ℕ) (h m s : ℕ) → Writes t (100 * h + m) → h < 24 → m < 60 → Writes u s → length u ≡ 2 → s < 60 → Writes-time (t ++ (58 ∷ u)) (60 * (60 * h + m) + s)
+
 -- the minute of the day that a number writes: its last two digits are the minute, the rest the hour
 abbrev pub minute-from : Option ℕ → Option ℕ
 minute-from None = None
@@ -43,8 +48,3 @@ two-digits n = (48 + n / 10) ∷ (48 + n % 10) ∷ []
 -- a second of the day as text: hour, minute, colon and second
 abbrev pub clock-text : ℕ → List ℕ
 clock-text p = two-digits (p / 3600) ++ (two-digits (p / 60 % 60) ++ (58 ∷ two-digits (p % 60)))
-
--- a value writes a second of the day: hour and minute in one to four digits, then perhaps a colon and the second in two
-pub data Writes-time : List ℕ → ℕ → Type 0 where
-  to-the-minute : (t : List ℕ) (h m : ℕ) → Writes t (100 * h + m) → h < 24 → m < 60 → Writes-time t (60 * (60 * h + m))
-  to-the-second : (t u : List ℕ) (h m s : ℕ) → Writes t (100 * h + m) → h < 24 → m < 60 → Writes u s → length u ≡ 2 → s < 60 → Writes-time (t ++ (58 ∷ u)) (60 * (60 * h + m) + s)

@@ -45,11 +45,12 @@ second-of-day p = ltb p 86400
 abbrev pub in-window : Clock → ℕ → Bool
 in-window c p = second-of-day p && between (from c) (to c) p
 
--- a bound is taken once
+-- a lower bound is taken once
 abbrev pub lower-bound : Clock → Option ℕ → ℕ → Taking Clock
 lower-bound c None s = became (record { lower = Some s; upper = c .upper })
 lower-bound c (Some t) s = doubled
 
+-- an upper bound is taken once
 abbrev pub upper-bound : Clock → Option ℕ → ℕ → Taking Clock
 upper-bound c None s = became (record { lower = c .lower; upper = Some s })
 upper-bound c (Some t) s = doubled

@@ -6,6 +6,7 @@ use Rattle.kind.specs.Windows.{clock-sense}
 use Rattle.kind.proofs.Dotted.{blocks-read}
 use Rattle.kind.proofs.Names.{days-read}
 use Rattle.kind.proofs.Pinned.{clock-once, day-once, address-once, pair-once}
+use Rattle.kind.proofs.Shown.{times-shown, addresses-shown}
 use Rattle.kind.proofs.Spelled.{times-read}
 use Rattle.kind.proofs.Together.{starts-at, ends-at, days-together, addresses-together}
 use Rattle.kind.proofs.pile.open_pile.Needs as need
@@ -19,9 +20,11 @@ returns c = record {
     starts-at = starts-at;
     ends-at = ends-at;
     times-read = times-read;
+    times-shown = times-shown;
     days-together = days-together;
     days-read = days-read;
     addresses-together = addresses-together;
     blocks-read = blocks-read;
+    addresses-shown = addresses-shown;
   };
 }
