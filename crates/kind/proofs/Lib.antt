@@ -1,14 +1,3 @@
 pub mod Pairs
 pub mod Numbers
-pub mod Readings
-pub mod Patterns
-pub mod Entries
-pub mod Exclusions
-pub mod Choices
 pub mod Writing
-pub mod Pinned
-pub mod Together
-pub mod Names
-pub mod Spelled
-pub mod Dotted
-pub mod Shown

@@ -3,12 +3,3 @@ pub mod Sense
 pub mod Texts
 pub mod Pairs
 pub mod Digits
-pub mod Times
-pub mod Windows
-pub mod Days
-pub mod Blocks
-pub mod Entries
-pub mod Choices
-pub mod Addresses
-pub mod Labels
-pub mod Pile

@@ -4,7 +4,7 @@ ghost use Rattle.std.specs.shelf.Text.{sameBytes};
 ghost use Rattle.kind.specs.Digits.{digit, number};
 
 // Whether two runs of bytes are the same.
-pub(crate) fn same(a: &[u8], b: &[u8]) -> bool
+pub fn same(a: &[u8], b: &[u8]) -> bool
     ensures { λ r. ⌜ r ≡ sameBytes (now (a .entry)) (now (b .entry)) ⌝ }
 {
     a == b
@@ -18,7 +18,7 @@ fn is_digit(b: u8) -> bool
 }
 
 // The number that one to four digits write.
-pub(crate) fn number_of(digits: &[u8]) -> Option<u16>
+pub fn number_of(digits: &[u8]) -> Option<u16>
     ensures { λ r. ⌜ r ≡ number (now (digits .entry)) ⌝ }
 {
     if digits.is_empty() || digits.len() > 4 {

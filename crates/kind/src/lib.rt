@@ -1,38 +1,21 @@
-// Kinds of condition: what a kind is, two kinds side by side, and the checker's own kinds.
-mod address;
-mod block;
+// Kinds of condition: what a kind is, two kinds side by side, and what kinds read and write with.
 mod both;
 mod bytes;
-mod choice;
-mod clock;
 mod comparison;
 mod conditions;
-mod day;
-mod entry;
-mod label;
-mod pile;
 mod printable;
-mod times;
 
-pub use address::Address;
-pub use address::AddressKind;
-pub use address::AddressPrintable;
 pub use both::Both;
 pub use both::BothKind;
 pub use both::BothPrintable;
 pub use both::pair;
-pub use clock::Clock;
-pub use clock::ClockKind;
-pub use clock::ClockPrintable;
+pub use bytes::number_of;
+pub use bytes::same;
 pub use comparison::Claim;
 pub use comparison::Declined;
 pub use comparison::Sign;
 pub use conditions::Kind;
 pub use conditions::meets;
-pub use day::Day;
-pub use day::DayKind;
-pub use day::DayPrintable;
-pub use pile::Pile;
-pub use pile::open_pile;
 pub use printable::Printable;
-pub use times::second_of;
+pub use printable::put;
+pub use printable::within;

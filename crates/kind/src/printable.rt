@@ -19,14 +19,14 @@ pub trait Printable: Kind {
 }
 
 // A length, if it is within the room.
-pub(crate) fn within(len: usize, room: usize) -> Option<usize>
+pub fn within(len: usize, room: usize) -> Option<usize>
     ensures { λ r. ⌜ ((t : List ℕ) → length t ≡ len → Within room t r) ⌝ }
 {
     if len <= room { Some(len) } else { None }
 }
 
 // Writes a text to the front of `out` if it fits.
-pub(crate) fn put(text: &[u8], out: &mut [u8]) -> Option<usize>
+pub fn put(text: &[u8], out: &mut [u8]) -> Option<usize>
     ensures { λ r. ⌜ Printed (now (text .entry)) (now (out .entry)) r (now (out .exit)) ⌝ }
 {
     if text.len() > out.len() {

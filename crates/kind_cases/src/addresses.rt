@@ -1,6 +1,6 @@
 // Pairs of sets of addresses with their common address, made by hand.
-use kind::Address;
-use kind::AddressKind;
+use address::Address;
+use address::AddressKind;
 use kind::Kind;
 use kind::Sign;
 

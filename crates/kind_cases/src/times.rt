@@ -1,5 +1,5 @@
 // Values of times with the seconds that they write, made by hand.
-use kind::second_of;
+use clock::second_of;
 
 const TIMES: [(&[u8], Option<u32>); 20] = [
     (b"0", Some(0)),

@@ -1,6 +1,6 @@
 // Pairs of comparisons of days against sets of days as bits.
-use kind::Day;
-use kind::DayKind;
+use day::Day;
+use day::DayKind;
 use kind::Kind;
 use kind::Sign;
 

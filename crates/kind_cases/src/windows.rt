@@ -1,6 +1,6 @@
 // Pairs of windows against a search over all seconds of the day.
-use kind::Clock;
-use kind::ClockKind;
+use clock::Clock;
+use clock::ClockKind;
 use kind::Kind;
 use kind::Sign;
 

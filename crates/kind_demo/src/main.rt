@@ -1,19 +1,19 @@
 // Prints a condition of the checker's own pile being built up and asked, line by line.
-use kind::AddressKind;
-use kind::AddressPrintable;
+use address::AddressKind;
+use address::AddressPrintable;
+use clock::ClockKind;
+use clock::ClockPrintable;
+use day::DayKind;
+use day::DayPrintable;
 use kind::BothKind;
 use kind::BothPrintable;
 use kind::Claim;
-use kind::ClockKind;
-use kind::ClockPrintable;
-use kind::DayKind;
-use kind::DayPrintable;
 use kind::Declined;
 use kind::Kind;
-use kind::Pile;
 use kind::Printable;
 use kind::Sign;
-use kind::open_pile;
+use pile::Pile;
+use pile::open_pile;
 use std::io;
 use std::io::Write;
 

@@ -1,0 +1,4 @@
+pub mod Patterns
+pub mod Entries
+pub mod Exclusions
+pub mod Choices

@@ -1,0 +1,5 @@
+pub mod Blocks
+pub mod Entries
+pub mod Choices
+pub mod Addresses
+pub mod Labels

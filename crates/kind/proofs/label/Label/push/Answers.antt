@@ -1,7 +1,0 @@
-use borrow.Author.Needs.{needs}
-use mathlib.Core.Path.{refl}
-use Rattle.std.proofs.shelf.Lists.{take-more-set}
-use Rattle.kind.proofs.label.Label.push.Needs as need
-
-pub returns : need.returns
-returns c = record { letters = search (needs, take-more-set); len = refl }

@@ -1,0 +1,16 @@
+pub mod Bits
+pub mod Numbered
+pub mod Lowest
+pub mod Marks
+pub mod Ways
+pub mod Counting
+pub mod Sweeping
+pub mod Answering
+pub mod Standing
+pub mod Listing
+pub mod Partials
+pub mod Touching
+pub mod Nodes
+pub mod Hits
+pub mod Drawing
+pub mod Unions

@@ -1,0 +1,11 @@
+pub mod Digits
+pub mod PortSets
+pub mod Patterns
+pub mod Live
+pub mod Tracking
+pub mod Roads
+pub mod Walks
+pub mod Found
+pub mod Paths
+pub mod Unions
+pub mod Routes
