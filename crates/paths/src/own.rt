@@ -16,6 +16,7 @@ use crate::pattern::Item;
 use crate::pattern::Pattern;
 use crate::ports::Port;
 use crate::roads::Roads;
+use crate::routing::Tip;
 use crate::routing::find_at_node;
 use crate::trail::Trail;
 use site::Site;
@@ -66,7 +67,13 @@ fn path_by(roads: &Roads, items: &[Item], nodes: u8, link: u8, out: &mut [u8]) -
     let live = at_start(items);
     let mut trail = Trail::new();
     for node in 0..nodes {
-        if let Some(len) = find_at_node(roads, items, link, &mut trail, out, 0, node, live, false) {
+        let tip = Tip {
+            node,
+            depth: 0,
+            live,
+            met: false,
+        };
+        if let Some(len) = find_at_node(roads, items, link, &mut trail, out, tip) {
             return Some(len);
         }
     }

@@ -16,86 +16,86 @@ use crate::roads::Roads;
 use crate::trail::Mark;
 use crate::trail::Trail;
 
-// Goes on to `node`, the path's node of number `depth`; once a path is found, its nodes from there on are written.
+// The end of the path under search: its node and the number of that, the live positions, and whether the link was met.
+#[derive(Clone, Copy)]
+pub(crate) struct Tip {
+    pub(crate) node: u8,
+    pub(crate) depth: usize,
+    pub(crate) live: u16,
+    pub(crate) met: bool,
+}
+
+// Goes on to the tip's node, from the live positions before it; once a path is found, its nodes from there on are written.
 pub(crate) fn find_at_node(
     roads: &Roads,
     items: &[Item],
     link: u8,
     trail: &mut Trail,
     out: &mut [u8],
-    depth: usize,
-    node: u8,
-    live: u16,
-    met: bool,
+    tip: Tip,
 ) -> Option<usize>
     requires few { ⌜ length (now items) ≤ 12 ⌝ }
     requires sound { ⌜ Sound (roadsIn (now roads)) ⌝ }
     requires long { ⌜ length (now trail .marked) ≡ 48 ⌝ }
     requires room { ⌜ 48 ≤ length (now out) ⌝ }
-    requires deep { ⌜ depth + free (now trail .marked) ≤ 48 ⌝ }
-    requires within { ⌜ node < 48 ⌝ }
-    requires fresh { ⌜ getD (now trail .marked) node false ≡ false ⌝ }
+    requires deep { ⌜ tip .depth + free (now trail .marked) ≤ 48 ⌝ }
+    requires within { ⌜ tip .node < 48 ⌝ }
+    requires fresh { ⌜ getD (now trail .marked) (tip .node) false ≡ false ⌝ }
     ensures trail { λ r. ⌜ now (trail .exit) ≡ now (trail .entry) ⌝ }
-    ensures drawn { λ r. ⌜ Drawn 0 depth (firstHit (length (now (items .entry))) link met (walks (now (items .entry)) (roadsIn (now (roads .entry))) (now (trail .entry) .marked) node live)) (now (out .entry)) r (now (out .exit)) ⌝ }
+    ensures drawn { λ r. ⌜ Drawn 0 (tip .depth) (firstHit (length (now (items .entry))) link (tip .met) (walks (now (items .entry)) (roadsIn (now (roads .entry))) (now (trail .entry) .marked) (tip .node) (tip .live))) (now (out .entry)) r (now (out .exit)) ⌝ }
 {
-    let live = after_node(items, live, node);
+    let live = after_node(items, tip.live, tip.node);
     if live == 0 {
         return None;
     }
-    if ends_here(live, items.len(), met) {
-        out[depth] = node;
-        return Some(depth + 1);
+    if ends_here(live, items.len(), tip.met) {
+        out[tip.depth] = tip.node;
+        return Some(tip.depth + 1);
     }
-    trail.mark(node);
-    let guard = Mark { trail, node };
-    let len = find_along_links(
-        roads,
-        items,
-        link,
-        guard.trail,
-        out,
-        depth + 1,
-        node,
+    trail.mark(tip.node);
+    let guard = Mark {
+        trail,
+        node: tip.node,
+    };
+    let onward = Tip {
+        node: tip.node,
+        depth: tip.depth + 1,
         live,
-        met,
-    )?;
-    out[depth] = node;
+        met: tip.met,
+    };
+    let len = find_along_links(roads, items, link, guard.trail, out, onward)?;
+    out[tip.depth] = tip.node;
     Some(len)
 }
 
+// Tries each way on from the tip's node, from the live positions after it; `depth` is the number of the next node.
 fn find_along_links(
     roads: &Roads,
     items: &[Item],
     link: u8,
     trail: &mut Trail,
     out: &mut [u8],
-    depth: usize,
-    node: u8,
-    live: u16,
-    met: bool,
+    tip: Tip,
 ) -> Option<usize>
     requires few { ⌜ length (now items) ≤ 12 ⌝ }
     requires sound { ⌜ Sound (roadsIn (now roads)) ⌝ }
     requires long { ⌜ length (now trail .marked) ≡ 48 ⌝ }
     requires room { ⌜ 48 ≤ length (now out) ⌝ }
-    requires deep { ⌜ depth + free (now trail .marked) ≤ 48 ⌝ }
-    requires within { ⌜ node < 48 ⌝ }
+    requires deep { ⌜ tip .depth + free (now trail .marked) ≤ 48 ⌝ }
+    requires within { ⌜ tip .node < 48 ⌝ }
     ensures trail { λ r. ⌜ now (trail .exit) ≡ now (trail .entry) ⌝ }
-    ensures drawn { λ r. ⌜ Drawn 1 depth (firstHit (length (now (items .entry))) link met (beyond (now (items .entry)) (roadsIn (now (roads .entry))) (now (trail .entry) .marked) node live (getD (roadsIn (now (roads .entry))) node []))) (now (out .entry)) r (now (out .exit)) ⌝ }
+    ensures drawn { λ r. ⌜ Drawn 1 (tip .depth) (firstHit (length (now (items .entry))) link (tip .met) (beyond (now (items .entry)) (roadsIn (now (roads .entry))) (now (trail .entry) .marked) (tip .node) (tip .live) (getD (roadsIn (now (roads .entry))) (tip .node) []))) (now (out .entry)) r (now (out .exit)) ⌝ }
 {
-    for step in roads.at(node) {
+    for step in roads.at(tip.node) {
         if !trail.has(step.node) {
-            if let Some(len) = find_at_node(
-                roads,
-                items,
-                link,
-                trail,
-                out,
-                depth,
-                step.node,
-                live,
-                takes(met, step.link, link),
-            ) {
+            let met = takes(tip.met, step.link, link);
+            let next = Tip {
+                node: step.node,
+                depth: tip.depth,
+                live: tip.live,
+                met,
+            };
+            if let Some(len) = find_at_node(roads, items, link, trail, out, next) {
                 return Some(len);
             }
         }

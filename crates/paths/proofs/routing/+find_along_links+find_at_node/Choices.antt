@@ -17,5 +17,5 @@ abbrev pub Inv-find-along-links-loop-step : given.InvT-find-along-links-loop-ste
 Inv-find-along-links-loop-step l =
     (l .trail ≡ l .entry .trail)
     × (l .out ≡ l .entry .out)
-    × (firstHit (length (l .items)) (l .link) (l .met) (beyond (l .items) (roadsIn (l .roads)) (l .entry .trail .marked) (l .node) (l .live) (drop (l .step-index) (getD (roadsIn (l .roads)) (l .node) [])))
-    ≡ firstHit (length (l .items)) (l .link) (l .met) (beyond (l .items) (roadsIn (l .roads)) (l .entry .trail .marked) (l .node) (l .live) (getD (roadsIn (l .roads)) (l .node) [])))
+    × (firstHit (length (l .items)) (l .link) (l .tip .met) (beyond (l .items) (roadsIn (l .roads)) (l .entry .trail .marked) (l .tip .node) (l .tip .live) (drop (l .step-index) (getD (roadsIn (l .roads)) (l .tip .node) [])))
+    ≡ firstHit (length (l .items)) (l .link) (l .tip .met) (beyond (l .items) (roadsIn (l .roads)) (l .entry .trail .marked) (l .tip .node) (l .tip .live) (getD (roadsIn (l .roads)) (l .tip .node) [])))
