@@ -5,26 +5,77 @@ use address::AddressKind;
 use clock::ClockKind;
 use day::DayKind;
 use kind::BothKind;
+use paths::Item;
 use pile::Pile;
+use rules::ActionDebug;
 use rules::Rule;
 use rules::read_rule;
 use site::Refusal;
 use site::Site;
 use std::error::AnyError;
 use std::io::Read;
+use std::mem::size_of;
+use std::str::from_utf8;
 
 // Nodes gate, barn, mill, hill, linked gate-barn, barn-mill, mill-hill, barn-hill; classes data, voice, video;
 // users boss of rank 1 and ward of rank 3.
 const MAP: &[u8] =
     b"\x01\x00\x04gate\x01\x00\x04barn\x01\x00\x04mill\x01\x00\x04hill\x02\x00\x02\x00\x01\x02\x00\x02\x01\x02\x02\x00\x02\x02\x03\x02\x00\x02\x01\x03\x03\x00\x04data\x03\x00\x05voice\x03\x00\x05video\x04\x00\x05\x01boss\x04\x00\x05\x03ward";
 
+const TOLD: &[u8] =
+    b"late boss {<gate,*,hill>} {traffic_class == {voice}} {time >= 2200, time <= 0600} {permit}; sound ward {<barn,mill>, <mill>} {traffic_class != {voice}} {time <= 0800} {deny}; field boss {*} {*} {*} {priority := 4};";
+
 // The number and the place of a text: of its refusal, or 0 and the place after the rule.
 fn outcome(site: &Site, text: &[u8]) -> (u8, usize) {
     let read: Result<(Rule<Pile>, usize), Refusal> = read_rule(site, text, 0);
     match read {
-        Ok((_, end)) => (0, end),
+        Ok(found) => (0, found.1),
         Err(refusal) => (refusal.number(), refusal.place),
     }
+}
+
+// What was read of a rule, part by part: nodes, classes and users by number.
+fn tell(rt: &LibcRuntime, rule: &Rule<Pile>) -> Result<(), AnyError> {
+    let id = from_utf8(rule.id.as_bytes())?;
+    println!(
+        rt,
+        "{id} at {}, user {} of rank {}",
+        rule.place, rule.user, rule.rank
+    )?;
+    for pattern in rule.patterns.as_slice() {
+        print!(rt, "  pattern")?;
+        for item in pattern.items() {
+            match item {
+                Item::Node(n) => print!(rt, " {n}")?,
+                Item::Star => print!(rt, " *")?,
+            }
+        }
+        println!(rt, "")?;
+    }
+    for place in rule.places.as_slice() {
+        println!(rt, "  first sign at {place}")?;
+    }
+    for class in 0..3 {
+        if rule.target.contains(class) {
+            println!(rt, "  class {class}")?;
+        }
+    }
+    println!(rt, "  {:?}, semicolon at {}", rule.action, rule.semicolon)?;
+    Ok(())
+}
+
+// Three rules, one after another.
+fn tell_all(rt: &LibcRuntime, site: &Site) -> Result<(), AnyError> {
+    let mut at = 0;
+    for _ in 0..3 {
+        let read: Result<(Rule<Pile>, usize), Refusal> = read_rule(site, TOLD, at);
+        if let Ok(found) = read {
+            tell(rt, &found.0)?;
+            at = found.1;
+        }
+    }
+    println!(rt, "a rule takes {} bytes", size_of::<Rule<Pile>>())?;
+    Ok(())
 }
 
 fn run(rt: &LibcRuntime) -> Result<(), AnyError> {
@@ -53,7 +104,7 @@ fn run(rt: &LibcRuntime) -> Result<(), AnyError> {
         }
     }
     println!(rt, "{count} cases, {other} otherwise than expected")?;
-    Ok(())
+    tell_all(rt, &site)
 }
 
 fn main(rt: LibcRuntime) -> Result<(), AnyError> {
