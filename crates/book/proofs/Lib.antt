@@ -1,0 +1,11 @@
+pub mod Having
+pub mod Seeing
+pub mod Gaps
+pub mod Finding
+pub mod Reader
+pub mod Laws
+pub mod Calls
+pub mod Weighing
+pub mod Naming
+pub mod Only
+pub mod Drawn
