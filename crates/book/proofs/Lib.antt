@@ -9,3 +9,5 @@ pub mod Weighing
 pub mod Naming
 pub mod Only
 pub mod Drawn
+pub mod Cutting
+pub mod Behind

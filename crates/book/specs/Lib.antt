@@ -6,3 +6,4 @@ pub mod Pairs
 pub mod Drawing
 pub mod Runs
 pub mod Books
+pub mod Lines

@@ -9,6 +9,7 @@ ghost use Rattle.book.specs.Runs.{One-answer};
 
 mod admission;
 mod asking;
+mod printing;
 
 use kind::Kind;
 use rules::Rule;

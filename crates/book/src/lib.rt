@@ -3,6 +3,8 @@
 mod answers;
 mod book;
 mod disagreement;
+mod line;
+mod lines;
 mod listing;
 mod places;
 mod routing;
@@ -13,3 +15,4 @@ pub use answers::Entry;
 pub use answers::Mark;
 pub use answers::Totals;
 pub use book::Book;
+pub use lines::write_totals;

@@ -25,6 +25,9 @@ type Point = ((u32, u8), [u8; 4]);
 // Room for each two of 64 rules.
 const MOST: usize = 2016;
 
+// More than the longest line: two ids, a node and a class of 16 bytes each, a point, and the words between.
+const WIDEST: usize = 160;
+
 #[derive(Drop)]
 pub struct Pairs {
     entries: Vec<Entry<Point>>,
@@ -54,22 +57,44 @@ impl Pairs {
 }
 
 // A line for each pair, and one with both counts.
-pub fn print(rt: &LibcRuntime, book: &Book<'_, '_, Pile>, pairs: &Pairs, totals: Totals) -> io::Result<()> {
+pub fn print(
+    rt: &LibcRuntime,
+    book: &Book<'_, '_, Pile>,
+    pairs: &Pairs,
+    totals: Totals,
+) -> io::Result<()> {
     let mut lines = Vec::new(rt.alloc());
-    let mut line = [0u8; 160];
     for entry in pairs.entries.iter().take(totals.pairs) {
-        if let Ok(len) = book.write_entry(entry, &mut line) {
-            if len <= 160 {
-                lines.extend_from_slice(&line[0..len])?;
-                lines.push(b'\n')?;
-            }
-        }
+        put_entry(&mut lines, book, entry)?;
     }
-    if let Ok(len) = write_totals(totals, &mut line) {
-        if len <= 160 {
-            lines.extend_from_slice(&line[0..len])?;
-            lines.push(b'\n')?;
-        }
-    }
+    put_totals(&mut lines, totals)?;
     rt.stdout().write_all(lines.as_slice())
+}
+
+fn put_entry(
+    lines: &mut Vec<u8>,
+    book: &Book<'_, '_, Pile>,
+    entry: &Entry<Point>,
+) -> Result<(), AllocError> {
+    let mut line = [0u8; WIDEST];
+    match book.write_entry(entry, &mut line) {
+        Ok(len) => put_line(lines, &line, len),
+        Err(_) => Ok(()),
+    }
+}
+
+fn put_totals(lines: &mut Vec<u8>, totals: Totals) -> Result<(), AllocError> {
+    let mut line = [0u8; WIDEST];
+    match write_totals(totals, &mut line) {
+        Ok(len) => put_line(lines, &line, len),
+        Err(_) => Ok(()),
+    }
+}
+
+// The first so many bytes of a line, and its end.
+fn put_line(lines: &mut Vec<u8>, line: &[u8], len: usize) -> Result<(), AllocError> {
+    if len <= line.len() {
+        lines.extend_from_slice(&line[0..len])?;
+    }
+    lines.extend_from_slice(b"\n")
 }
