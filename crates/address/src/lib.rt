@@ -1,4 +1,6 @@
 // The address: sets of addresses by blocks, as a kind of condition.
+#![tactic(auto)]
+
 mod address;
 mod block;
 mod choice;

@@ -1,5 +1,7 @@
 // A book of rules over a sealed site, for any kind of condition: which rules stand, which of them contradict each
 // other, and what they decide.
+#![tactic(auto)]
+
 mod book;
 mod places;
 mod routing;

@@ -1,4 +1,6 @@
 // The clock: windows of seconds of the day, as a kind of condition.
+#![tactic(auto)]
+
 mod clock;
 mod times;
 

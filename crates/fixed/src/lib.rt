@@ -1,4 +1,6 @@
 // Lists of fixed capacity, names, and tables of names: what the checker keeps, without a heap.
+#![tactic(auto)]
+
 mod bounded;
 mod naming;
 mod roster;

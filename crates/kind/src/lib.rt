@@ -1,4 +1,6 @@
 // Kinds of condition: what a kind is, two kinds side by side, and what kinds read and write with.
+#![tactic(auto)]
+
 mod both;
 mod bytes;
 mod comparison;

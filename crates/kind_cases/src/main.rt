@@ -1,4 +1,6 @@
 // Compares the kinds with searches written on their own and with tables made by hand, and prints how many agree.
+#![tactic(auto)]
+
 mod addresses;
 mod times;
 mod weeks;

@@ -1,4 +1,6 @@
 // Prints a condition of the checker's own pile being built up and asked, line by line.
+#![tactic(auto)]
+
 use kind::{Claim, Declined, Kind, Printable, Sign};
 use pile::{Pile, open_pile};
 use std::io;

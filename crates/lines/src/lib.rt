@@ -1,4 +1,6 @@
 // The lines of a report: one for each pair, and one with the totals, written into a buffer.
+#![tactic(auto)]
+
 mod line;
 mod lines;
 

@@ -1,4 +1,6 @@
 // The pairs of rules that contradict each other: where two rules do, which gives way, and the list of all pairs.
+#![tactic(auto)]
+
 mod answers;
 mod disagreement;
 mod listing;

@@ -1,4 +1,6 @@
 // Patterns of paths over a site, and the ports that their paths touch.
+#![tactic(auto)]
+
 mod finding;
 mod live;
 mod own;

@@ -1,4 +1,6 @@
 // The search behind a C interface, for the program in bench/ to time.
+#![tactic(auto)]
+
 use paths::{Fault, Item, Pattern, Port, PortSet, search};
 use site::Site;
 

@@ -1,4 +1,6 @@
 // Patterns over small sites with the ports that their paths touch; prints how many are answered so.
+#![tactic(auto)]
+
 mod answer;
 mod brute;
 mod cliques;

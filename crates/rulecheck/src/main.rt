@@ -1,4 +1,6 @@
 // Reads the map site.map of the current folder and rules on standard input, and names every pair that contradicts.
+#![tactic(auto)]
+
 mod listing;
 
 use book::{Book, Totals, write_totals};

@@ -1,4 +1,6 @@
 // Rules: their text read section by section, and what each says of a traffic class.
+#![tactic(auto)]
+
 mod rule;
 mod verdict;
 

@@ -1,6 +1,8 @@
 // Reads cases from standard input and tells which of them are not read as expected.
 // A case is a line with a number, a place and a word on the case, then a text, then a line with a dot:
 // the text's refusal and its place, or 0 and the place after the rule.
+#![tactic(auto)]
+
 use kind::Kind;
 use paths::Item;
 use pile::Pile;

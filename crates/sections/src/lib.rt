@@ -1,4 +1,6 @@
 // The sections of a rule's text, read one by one: its head, paths, target, conditions and action.
+#![tactic(auto)]
+
 mod action;
 mod conditions;
 mod head;

@@ -1,4 +1,6 @@
 // The site sheet: a site as plain text, a declaration a line.
+#![tactic(auto)]
+
 mod lines;
 
 pub use lines::sheet;

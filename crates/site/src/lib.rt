@@ -1,4 +1,6 @@
 // A site: its nodes, links, traffic classes and users, read from the bytes of a map.
+#![tactic(auto)]
+
 mod draft;
 mod fields;
 mod parts;

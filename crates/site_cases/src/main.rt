@@ -1,4 +1,6 @@
 // Maps with the answers that the format gives them, worked out by hand; prints how many are so answered.
+#![tactic(auto)]
+
 mod limits;
 mod table;
 mod worked;

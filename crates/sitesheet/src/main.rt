@@ -1,4 +1,6 @@
 // Prints the sheet of the site whose map is the file site.map of the current folder.
+#![tactic(auto)]
+
 use sheet::sheet;
 use site::Site;
 use std::alloc::Global;

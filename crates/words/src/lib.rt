@@ -1,4 +1,6 @@
 // The words of a rule's text: where they stand, which they are, and whether more come.
+#![tactic(auto)]
+
 mod blanks;
 mod signs;
 mod words;

@@ -22,8 +22,8 @@ few c =
     let long = length-append c.args.first.now c.args.second.now in
     omega (arith, c.requires)
 
-pub overflow-add-candidate : goal.overflow-add-candidate
-overflow-add-candidate c = let most = few c in omega arith
+pub overflow_add-candidate : goal.overflow_add-candidate
+overflow_add-candidate c = let most = few c in omega arith
 
 pub candidates-smaller : goal.candidates-smaller
 candidates-smaller c = let most = few c in omega (arith, c.loop-k.invariant.2)

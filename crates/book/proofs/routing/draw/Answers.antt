@@ -8,5 +8,5 @@ returns-then-position-rules g c = (refl, none_past (plan c.args.site.now) c.args
 
 pub returns : goal.returns
 returns g c =
-    drawn (plan c.args.site.now) c.args.rules.now c.args.position c.args.port c.index-rules-position.result c.if-position-rules.false c.index-rules-position.is c.as-slice.result.now c.as-slice.ensures
-    c.args.out.now c.own-path.new.out c.own-path.result c.requires c.own-path.ensures
+    drawn (plan c.args.site.now) c.args.rules.now c.args.position c.args.port c.index-rules-position.result c.if-position-rules.false c.index-rules-position.is c.as_slice.result.now c.as_slice.ensures
+    c.args.out.now c.own_path.new.out c.own_path.result c.requires c.own_path.ensures

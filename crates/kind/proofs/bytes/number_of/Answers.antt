@@ -7,8 +7,8 @@ use Rattle.kind.specs.Digits.{digit, decimal}
 use Rattle.kind.proofs.Numbers.{number_none, number_some, below_power}
 use Rattle.kind.proofs.bytes.number_of.Goals as goal
 
-pub returns-then-not-is-digit : goal.returns-then-not-is-digit
-returns-then-not-is-digit c =
+pub returns-then-not-is_digit : goal.returns-then-not-is_digit
+returns-then-not-is_digit c =
     let none = prefix_len-drop_no digit c.args.digits.now c.loop-b.b-index 0 (omega arith) (search rules) in
     number_none c.args.digits.now (omega arith)
 
@@ -25,5 +25,5 @@ loop-b-preserved c =
 pub returns : goal.returns
 returns c =
     let none = prefix_len-drop_all digit c.args.digits.now c.loop-b.b-index (omega arith) in
-    number_some c.args.digits.now c.loop-b.n (omega (arith, eqb-false (length c.args.digits.now) 0 (sym c.if-is-empty.ensures))) (omega arith) (omega arith)
+    number_some c.args.digits.now c.loop-b.n (omega (arith, eqb-false (length c.args.digits.now) 0 (sym c.if-is_empty.ensures))) (omega arith) (omega arith)
     (c.loop-b.invariant.0 ∙ ap decimal (take_all c.loop-b.b-index c.args.digits.now (omega arith)))

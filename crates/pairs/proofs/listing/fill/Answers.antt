@@ -5,7 +5,7 @@ use Rattle.rules.specs.Rules.{rule_of}
 use Rattle.pairs.proofs.Naming.{filled_none, filled_begins, filled_ends, filled_skip, filled_more, filled_room, filled_all, one_most, as_are}
 use Rattle.pairs.proofs.Seeing.{seen_nth}
 use Rattle.pairs.proofs.listing.fill.Goals as goal
-use Rattle.pairs.proofs.listing.fill.Goals.{in-Some, in-default}
+use Rattle.pairs.proofs.listing.fill.Goals.{in-Some, in_default}
 
 pub loop-i-init : goal.loop-i-init
 loop-i-init g c = filled_none (plan c.args.site.now) g.K.Kind.sense (map rule_of c.args.rules.now) c.args.list.now
@@ -24,8 +24,8 @@ put-requires g c =
     (seen_nth rs c.loop-i.i c.index-rules-i.result c.loop-i-test.true c.index-rules-i.is) (seen_nth rs c.loop-j.j c.index-rules-j.result c.loop-j-test.true c.index-rules-j.is) (omega arith) e.0 e.1 e.2 c.requires
     (c.loop-j.invariant.2 old (filled_begins s k (map rule_of rs) c.loop-i.i old c.loop-i.list c.loop-i.n c.loop-i.unsettled c.loop-i.invariant))
 
-pub overflow-add-unsettled : goal.overflow-add-unsettled
-overflow-add-unsettled g c = omega (arith, c.one-if-open-unsettled.ensures, one_most c.in-Some.e.mark, c.loop-j.invariant.0, c.loop-j.invariant.1)
+pub overflow_add-unsettled : goal.overflow_add-unsettled
+overflow_add-unsettled g c = omega (arith, c.one_if_open-unsettled.ensures, one_most c.in-Some.e.mark, c.loop-j.invariant.0, c.loop-j.invariant.1)
 
 pub loop-j-preserved : goal.loop-j-preserved
 loop-j-preserved g c =
@@ -43,22 +43,22 @@ loop-j-preserved g c =
     let n = c.loop-j.n in
     let u = c.loop-j.unsettled in
     let begun = filled_begins s k (map rule_of rs) i old₀ c.loop-i.list c.loop-i.n c.loop-i.unsettled c.loop-i.invariant in
-    elim c.match-entry-of.branch [
+    elim c.match-entry_of.branch [
       | in-Some w ↦ (
           let e = w.in-Some.e in
           let t = w.in-Some.ensures in
           let lt : i < j = omega arith in
           let more : n < length list = filled_room s k g.met.K.Kind.laws (map rule_of rs) i j (rule_of q) (rule_of r) old₀ list n u e pi pj lt t.0 t.1 t.2 c.requires (c.loop-j.invariant.2 old₀ begun) in (
-            omega (arith, w.n-is, w.unsettled-is, w.one-if-open-unsettled.ensures, one_most e.mark, c.loop-j.invariant.0),
+            omega (arith, w.n-is, w.unsettled-is, w.one_if_open-unsettled.ensures, one_most e.mark, c.loop-j.invariant.0),
             omega (arith, w.n-is, more),
-            λ old f. as_are s k (map rule_of rs) i (j + 1) old _ _ _ _ _ _ (w.list-is ∙ w.put.ensures) w.n-is (w.unsettled-is ∙ ap (λ z. u + z) w.one-if-open-unsettled.ensures)
+            λ old f. as_are s k (map rule_of rs) i (j + 1) old _ _ _ _ _ _ (w.list-is ∙ w.put.ensures) w.n-is (w.unsettled-is ∙ ap (λ z. u + z) w.one_if_open-unsettled.ensures)
                 (filled_more s k (map rule_of rs) i j (rule_of q) (rule_of r) old list n u e pi pj lt t.0 t.1 t.2 more (c.loop-j.invariant.2 old f)),
           ))
-      | in-default w ↦ (
+      | in_default w ↦ (
         omega (arith, w.n-is, w.unsettled-is, c.loop-j.invariant.0),
         omega (arith, w.n-is, c.loop-j.invariant.1),
         λ old f. as_are s k (map rule_of rs) i (j + 1) old _ _ _ _ _ _ w.list-is w.n-is w.unsettled-is
-            (filled_skip s k (map rule_of rs) i j (rule_of q) (rule_of r) old list n u pi pj w.in-default.ensures (c.loop-j.invariant.2 old f)),
+            (filled_skip s k (map rule_of rs) i j (rule_of q) (rule_of r) old list n u pi pj w.in_default.ensures (c.loop-j.invariant.2 old f)),
       )
     ]
 

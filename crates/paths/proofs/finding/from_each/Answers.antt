@@ -17,8 +17,8 @@ loop-node-init c =
           (sym whole) (sweep_none (length c.args.items.now) all (record { count = 0; found = record { bits = 0 } }) (record { count = 0; found = c.empty.result }) refl c.empty.ensures.bits (omega arith)),
     )
 
-pub at-node-requires : goal.at-node-requires
-at-node-requires c =
+pub at_node-requires : goal.at_node-requires
+at_node-requires c =
     record {
       few = c.requires.few;
       sound = c.requires.sound;
@@ -30,18 +30,18 @@ at-node-requires c =
 
 pub loop-node-preserved : goal.loop-node-preserved
 loop-node-preserved c = (
-  ap (λ (x : Trail). x.marked) c.at-node.ensures.trail ∙ c.loop-node.invariant.0,
-  sweep_more (length c.args.items.now) c.args.items.now (roads_in c.args.roads.now) c.loop-node.node c.args.nodes c.at-start-live.result c.empty-in-loop-node.result.bits c.loop-node.trail
-      (record { count = 0; found = record { bits = 0 } }) c.loop-node.tally c.loop-node-test.true c.loop-node.invariant.0 c.at-start-live.ensures c.empty-in-loop-node.ensures.bits c.loop-node.invariant.1
-      c.at-node.new.tally c.in-ok-at-node.ensures.counted,
+  ap (λ (x : Trail). x.marked) c.at_node.ensures.trail ∙ c.loop-node.invariant.0,
+  sweep_more (length c.args.items.now) c.args.items.now (roads_in c.args.roads.now) c.loop-node.node c.args.nodes c.at_start-live.result c.empty-in-loop-node.result.bits c.loop-node.trail
+      (record { count = 0; found = record { bits = 0 } }) c.loop-node.tally c.loop-node-test.true c.loop-node.invariant.0 c.at_start-live.ensures c.empty-in-loop-node.ensures.bits c.loop-node.invariant.1
+      c.at_node.new.tally c.in_ok-at_node.ensures.counted,
 )
 
-pub returns-in-err-at-node : goal.returns-in-err-at-node
-returns-in-err-at-node c =
-    let p = err_from_is_err_and c.from-residual.result c.from-residual.ensures.1 in
-    let over = sweep_over (length c.args.items.now) c.args.items.now (roads_in c.args.roads.now) c.loop-node.node c.args.nodes c.at-start-live.result c.empty-in-loop-node.result.bits c.loop-node.trail
-    (record { count = 0; found = record { bits = 0 } }) c.loop-node.tally c.loop-node-test.true c.loop-node.invariant.0 c.at-start-live.ensures c.empty-in-loop-node.ensures.bits c.loop-node.invariant.1
-    c.in-err-at-node.ensures.counted in
+pub returns-in_err-at_node : goal.returns-in_err-at_node
+returns-in_err-at_node c =
+    let p = err_from_is_err_and c.from_residual.result c.from_residual.ensures.1 in
+    let over = sweep_over (length c.args.items.now) c.args.items.now (roads_in c.args.roads.now) c.loop-node.node c.args.nodes c.at_start-live.result c.empty-in-loop-node.result.bits c.loop-node.trail
+    (record { count = 0; found = record { bits = 0 } }) c.loop-node.tally c.loop-node-test.true c.loop-node.invariant.0 c.at_start-live.ensures c.empty-in-loop-node.ensures.bits c.loop-node.invariant.1
+    c.in_err-at_node.ensures.counted in
     rw p.1 (omega (arith, over))
 
 pub returns : goal.returns

@@ -3,16 +3,16 @@ use Rattle.paths.specs.Digits.{has}
 use Rattle.paths.specs.Live.{opens}
 use Rattle.paths.proofs.Marks.{marks_none, marks_on, marks_off}
 use Rattle.paths.proofs.live.at_start.Goals as goal
-use Rattle.paths.proofs.live.at_start.Goals.{then-opens-on, else-opens-on}
+use Rattle.paths.proofs.live.at_start.Goals.{then-opens_on, else-opens_on}
 
 pub loop-k-init : goal.loop-k-init
 loop-k-init c = marks_none (opens c.args.items.now) 1
 
 pub loop-k-preserved : goal.loop-k-preserved
 loop-k-preserved c =
-    let found : c.opens-on.result ≡ opens c.args.items.now c.loop-k.k (has c.loop-k.live c.loop-k.k) =
-    simp c.is-live.ensures at c.opens-on.ensures in
-    elim c.if-opens-on.branch [
-      | then-opens-on w ↦ marks_on (opens c.args.items.now) 1 c.loop-k.k c.loop-k.live c.if-opens-on.live c.opens-on.result c.loop-k.invariant found w.if-opens-on.true (w.live-is ∙ w.with-live.ensures)
-      | else-opens-on w ↦ marks_off (opens c.args.items.now) 1 c.loop-k.k c.loop-k.live c.if-opens-on.live c.opens-on.result c.loop-k.invariant found w.if-opens-on.false w.live-is
+    let found : c.opens_on.result ≡ opens c.args.items.now c.loop-k.k (has c.loop-k.live c.loop-k.k) =
+    simp c.is_live.ensures at c.opens_on.ensures in
+    elim c.if-opens_on.branch [
+      | then-opens_on w ↦ marks_on (opens c.args.items.now) 1 c.loop-k.k c.loop-k.live c.if-opens_on.live c.opens_on.result c.loop-k.invariant found w.if-opens_on.true (w.live-is ∙ w.with-live.ensures)
+      | else-opens_on w ↦ marks_off (opens c.args.items.now) 1 c.loop-k.k c.loop-k.live c.if-opens_on.live c.opens_on.result c.loop-k.invariant found w.if-opens_on.false w.live-is
     ]

@@ -13,8 +13,8 @@ loop-node-init c =
     let whole : c.args.nodes - 0 ≡ c.args.nodes = omega arith in
     (c.new-trail.ensures, refl, ap (λ x. first_hit (length c.args.items.now) c.args.link false (starting c.args.items.now (roads_in c.args.roads.now) 0 x)) whole)
 
-pub find-at-node-requires : goal.find-at-node-requires
-find-at-node-requires c =
+pub find_at_node-requires : goal.find_at_node-requires
+find_at_node-requires c =
     record {
       few = c.requires.few;
       sound = c.requires.sound;
@@ -26,12 +26,12 @@ find-at-node-requires c =
     }
 
 pub returns-in-Some : goal.returns-in-Some
-returns-in-Some c = start_found (length c.args.items.now) c.args.items.now (roads_in c.args.roads.now) c.loop-node.node c.args.nodes c.at-start-live.result c.args.link c.loop-node.trail c.loop-node-test.true c.loop-node.invariant.0 c.at-start-live.ensures c.loop-node.invariant.2 c.in-Some.len c.loop-node.out c.args.out.now c.find-at-node.new.out c.find-at-node.result c.loop-node.invariant.1 c.in-Some.is c.find-at-node.ensures.drawn
+returns-in-Some c = start_found (length c.args.items.now) c.args.items.now (roads_in c.args.roads.now) c.loop-node.node c.args.nodes c.at_start-live.result c.args.link c.loop-node.trail c.loop-node-test.true c.loop-node.invariant.0 c.at_start-live.ensures c.loop-node.invariant.2 c.in-Some.len c.loop-node.out c.args.out.now c.find_at_node.new.out c.find_at_node.result c.loop-node.invariant.1 c.in-Some.is c.find_at_node.ensures.drawn
 
 pub loop-node-preserved : goal.loop-node-preserved
 loop-node-preserved c =
-    let x = start_none (length c.args.items.now) c.args.items.now (roads_in c.args.roads.now) c.loop-node.node c.args.nodes c.at-start-live.result c.args.link c.loop-node.trail c.loop-node-test.true c.loop-node.invariant.0 c.at-start-live.ensures c.loop-node.invariant.2 c.loop-node.out c.find-at-node.new.out c.find-at-node.result c.in-default.is c.find-at-node.ensures.drawn in
-    (ap (λ (y : Trail). y.marked) c.find-at-node.ensures.trail ∙ c.loop-node.invariant.0, x.0 ∙ c.loop-node.invariant.1, x.1)
+    let x = start_none (length c.args.items.now) c.args.items.now (roads_in c.args.roads.now) c.loop-node.node c.args.nodes c.at_start-live.result c.args.link c.loop-node.trail c.loop-node-test.true c.loop-node.invariant.0 c.at_start-live.ensures c.loop-node.invariant.2 c.loop-node.out c.find_at_node.new.out c.find_at_node.result c.in_default.is c.find_at_node.ensures.drawn in
+    (ap (λ (y : Trail). y.marked) c.find_at_node.ensures.trail ∙ c.loop-node.invariant.0, x.0 ∙ c.loop-node.invariant.1, x.1)
 
 pub returns : goal.returns
 returns c = starts_over (length c.args.items.now) c.args.items.now (roads_in c.args.roads.now) c.loop-node.node c.args.nodes c.args.link c.args.out.now c.loop-node.out c.loop-node-test.false c.loop-node.invariant.1 c.loop-node.invariant.2

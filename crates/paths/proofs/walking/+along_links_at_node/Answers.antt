@@ -8,53 +8,53 @@ use Rattle.paths.specs.Roads.{roads_in}
 use Rattle.paths.specs.Walks.{free, walks, beyond}
 use Rattle.paths.proofs.Counting.{restored, free_mark, along_all, going_all, at_dead, at_live, counted_more, hop_counted, hop_over, hop_back}
 use Rattle.paths.proofs.walking.+along_links_at_node.Goals as goal
-use Rattle.paths.proofs.walking.+along_links_at_node.Goals.{along-links-then-not-has+in-ok-at-node, along-links-else-not-has}
+use Rattle.paths.proofs.walking.+along_links_at_node.Goals.{along_links-then-not-has+in_ok-at_node, along_links-else-not-has}
 
-pub along-links-returns-in-err-at-node : goal.along-links-returns-in-err-at-node
-along-links-returns-in-err-at-node t c =
-    let p = err_from_is_err_and c.from-residual.result c.from-residual.ensures.1 in
+pub along_links-returns-in_err-at_node : goal.along_links-returns-in_err-at_node
+along_links-returns-in_err-at_node t c =
+    let p = err_from_is_err_and c.from_residual.result c.from_residual.ensures.1 in
     rw p.1 (record {
-      trail = c.at-node.ensures.trail ∙ c.loop-step.invariant.0;
-      counted = hop_over (length c.args.items.now) c.args.items.now (roads_in c.args.roads.now) c.loop-step.trail c.args.trail.now c.args.node c.args.live c.loop-step.step-index c.args.used.bits (get_or (roads_in c.args.roads.now) c.args.node []) c.at-step-items.result.now (record { link = 0; node = 0 }) (get_or c.at-step-items.result.now c.loop-step.step-index (record { link = 0; node = 0 })) c.args.tally.now c.loop-step.tally c.loop-step-test.true c.at-step-items.ensures refl c.loop-step.invariant.0 c.loop-step.invariant.1 c.has.result c.has.ensures c.if-not-has.true c.in-err-at-node.ensures.counted;
+      trail = c.at_node.ensures.trail ∙ c.loop-step.invariant.0;
+      counted = hop_over (length c.args.items.now) c.args.items.now (roads_in c.args.roads.now) c.loop-step.trail c.args.trail.now c.args.node c.args.live c.loop-step.step-index c.args.used.bits (get_or (roads_in c.args.roads.now) c.args.node []) c.at-step-items.result.now (record { link = 0; node = 0 }) (get_or c.at-step-items.result.now c.loop-step.step-index (record { link = 0; node = 0 })) c.args.tally.now c.loop-step.tally c.loop-step-test.true c.at-step-items.ensures refl c.loop-step.invariant.0 c.loop-step.invariant.1 c.has.result c.has.ensures c.if-not-has.true c.in_err-at_node.ensures.counted;
     })
 
-pub along-links-loop-step-preserved : goal.along-links-loop-step-preserved
-along-links-loop-step-preserved t c =
+pub along_links-loop-step-preserved : goal.along_links-loop-step-preserved
+along_links-loop-step-preserved t c =
     elim c.if-not-has.branch [
-      | along-links-then-not-has+in-ok-at-node w ↦ (
-        w.trail-is ∙ w.at-node.ensures.trail ∙ c.loop-step.invariant.0,
-        rw w.tally-is (hop_counted (length c.args.items.now) c.args.items.now (roads_in c.args.roads.now) c.loop-step.trail c.args.trail.now c.args.node c.args.live c.loop-step.step-index c.args.used.bits (get_or (roads_in c.args.roads.now) c.args.node []) c.at-step-items.result.now (record { link = 0; node = 0 }) (get_or c.at-step-items.result.now c.loop-step.step-index (record { link = 0; node = 0 })) c.args.tally.now c.loop-step.tally c.loop-step-test.true c.at-step-items.ensures refl c.loop-step.invariant.0 c.loop-step.invariant.1 c.has.result w.with-link.result.bits w.at-node.new.tally c.has.ensures w.if-not-has.true w.with-link.ensures w.in-ok-at-node.ensures.counted),
+      | along_links-then-not-has+in_ok-at_node w ↦ (
+        w.trail-is ∙ w.at_node.ensures.trail ∙ c.loop-step.invariant.0,
+        rw w.tally-is (hop_counted (length c.args.items.now) c.args.items.now (roads_in c.args.roads.now) c.loop-step.trail c.args.trail.now c.args.node c.args.live c.loop-step.step-index c.args.used.bits (get_or (roads_in c.args.roads.now) c.args.node []) c.at-step-items.result.now (record { link = 0; node = 0 }) (get_or c.at-step-items.result.now c.loop-step.step-index (record { link = 0; node = 0 })) c.args.tally.now c.loop-step.tally c.loop-step-test.true c.at-step-items.ensures refl c.loop-step.invariant.0 c.loop-step.invariant.1 c.has.result w.with_link.result.bits w.at_node.new.tally c.has.ensures w.if-not-has.true w.with_link.ensures w.in_ok-at_node.ensures.counted),
       )
-      | along-links-else-not-has w ↦ (
+      | along_links-else-not-has w ↦ (
         w.trail-is ∙ c.loop-step.invariant.0,
         rw w.tally-is (hop_back (length c.args.items.now) c.args.items.now (roads_in c.args.roads.now) c.loop-step.trail c.args.trail.now c.args.node c.args.live c.loop-step.step-index c.args.used.bits (get_or (roads_in c.args.roads.now) c.args.node []) c.at-step-items.result.now (record { link = 0; node = 0 }) (get_or c.at-step-items.result.now c.loop-step.step-index (record { link = 0; node = 0 })) c.args.tally.now c.loop-step.tally c.loop-step-test.true c.at-step-items.ensures refl c.loop-step.invariant.0 c.loop-step.invariant.1 c.has.result c.has.ensures w.if-not-has.false),
       )
     ]
 
-pub along-links-returns : goal.along-links-returns
-along-links-returns t c =
+pub along_links-returns : goal.along_links-returns
+along_links-returns t c =
     let past : length (get_or (roads_in c.args.roads.now) c.args.node []) ≤ c.loop-step.step-index = omega (arith, c.loop-step-test.false, ap length c.at-step-items.ensures) in
     record {
       trail = c.loop-step.invariant.0;
       counted = going_all _ _ _ _ _ _ (along_all _ _ _ _ _ past) c.loop-step.invariant.1;
     }
 
-pub at-node-returns-then-live-eq0 : goal.at-node-returns-then-live-eq0
-at-node-returns-then-live-eq0 t c =
+pub at_node-returns-then-live-eq0 : goal.at_node-returns-then-live-eq0
+at_node-returns-then-live-eq0 t c =
     record {
       trail = refl;
-      counted = at_dead c.args.items.now (roads_in c.args.roads.now) c.args.trail.now.marked c.args.node c.args.live c.after-node-live.result c.args.used.bits (length c.args.items.now) c.args.tally.now (omega arith) c.requires.fresh c.after-node-live.ensures c.if-live-eq0.true c.requires.room;
+      counted = at_dead c.args.items.now (roads_in c.args.roads.now) c.args.trail.now.marked c.args.node c.args.live c.after_node-live.result c.args.used.bits (length c.args.items.now) c.args.tally.now (omega arith) c.requires.fresh c.after_node-live.ensures c.if-live-eq0.true c.requires.room;
     }
 
-pub at-node-returns-in-err-add : goal.at-node-returns-in-err-add
-at-node-returns-in-err-add t c =
-    let p = err_from_is_err_and c.from-residual.result c.from-residual.ensures.1 in
+pub at_node-returns-in_err-add : goal.at_node-returns-in_err-add
+at_node-returns-in_err-add t c =
+    let p = err_from_is_err_and c.from_residual.result c.from_residual.ensures.1 in
     let begun : walks c.args.items.now (roads_in c.args.roads.now) c.args.trail.now.marked c.args.node c.args.live ≡ _ =
-    at_live c.args.items.now (roads_in c.args.roads.now) c.args.trail.now.marked (set c.args.trail.now.marked c.args.node true) c.args.node c.args.live c.after-node-live.result (omega arith) c.requires.fresh c.after-node-live.ensures c.if-live-eq0.false refl in
-    rw p.1 (record { trail = refl; counted = omega (arith, c.in-err-add.ensures, ap length begun) })
+    at_live c.args.items.now (roads_in c.args.roads.now) c.args.trail.now.marked (set c.args.trail.now.marked c.args.node true) c.args.node c.args.live c.after_node-live.result (omega arith) c.requires.fresh c.after_node-live.ensures c.if-live-eq0.false refl in
+    rw p.1 (record { trail = refl; counted = omega (arith, c.in_err-add.ensures, ap length begun) })
 
-pub at-node-along-links-requires : goal.at-node-along-links-requires
-at-node-along-links-requires t c =
+pub at_node-along_links-requires : goal.at_node-along_links-requires
+at_node-along_links-requires t c =
     let marked : c.mark.new.self.marked ≡ set c.args.trail.now.marked c.args.node true = ap (λ (x : Trail). x.marked) c.mark.ensures in
     let fewer = free_mark c.args.trail.now.marked c.args.node (omega arith) c.requires.fresh in
     let falls : 2 * free c.mark.new.self.marked + 1 < t = omega (arith, ap free marked, fewer, c.decreases) in (
@@ -65,20 +65,20 @@ at-node-along-links-requires t c =
           c.requires.sound,
           (
             ap length marked ∙ length-set c.args.trail.now.marked c.args.node true ∙ c.requires.long,
-            (omega (arith, c.in-ok-add.ensures.0, c.in-ok-add.ensures.1), c.requires.within),
+            (omega (arith, c.in_ok-add.ensures.0, c.in_ok-add.ensures.1), c.requires.within),
           ),
         ),
       ),
     )
 
-pub at-node-returns : goal.at-node-returns
-at-node-returns t c =
+pub at_node-returns : goal.at_node-returns
+at_node-returns t c =
     let marked : c.mark.new.self.marked ≡ set c.args.trail.now.marked c.args.node true = ap (λ (x : Trail). x.marked) c.mark.ensures in
     record {
-      trail = restored c.args.trail.now c.mark.new.self c.along-links.new.trail c.drop-guard.new.self.0 c.args.node c.requires.fresh c.mark.ensures c.along-links.ensures.trail c.drop-guard.ensures;
+      trail = restored c.args.trail.now c.mark.new.self c.along_links.new.trail c.drop-guard.new.self.0 c.args.node c.requires.fresh c.mark.ensures c.along_links.ensures.trail c.drop-guard.ensures;
       counted = counted_more (length c.args.items.now) (walks c.args.items.now (roads_in c.args.roads.now) c.args.trail.now.marked c.args.node c.args.live)
-          (beyond c.args.items.now (roads_in c.args.roads.now) c.mark.new.self.marked c.args.node c.after-node-live.result (get_or (roads_in c.args.roads.now) c.args.node []))
-          c.args.node c.after-node-live.result c.args.used.bits c.args.tally.now c.add.new.self c.is-live.result c.along-links.result c.along-links.new.tally
-          (at_live c.args.items.now (roads_in c.args.roads.now) c.args.trail.now.marked c.mark.new.self.marked c.args.node c.args.live c.after-node-live.result (omega arith) c.requires.fresh c.after-node-live.ensures c.if-live-eq0.false marked)
-          c.is-live.ensures c.in-ok-add.ensures.0 c.in-ok-add.ensures.1 c.in-ok-add.ensures.2 c.along-links.ensures.counted;
+          (beyond c.args.items.now (roads_in c.args.roads.now) c.mark.new.self.marked c.args.node c.after_node-live.result (get_or (roads_in c.args.roads.now) c.args.node []))
+          c.args.node c.after_node-live.result c.args.used.bits c.args.tally.now c.add.new.self c.is_live.result c.along_links.result c.along_links.new.tally
+          (at_live c.args.items.now (roads_in c.args.roads.now) c.args.trail.now.marked c.mark.new.self.marked c.args.node c.args.live c.after_node-live.result (omega arith) c.requires.fresh c.after_node-live.ensures c.if-live-eq0.false marked)
+          c.is_live.ensures c.in_ok-add.ensures.0 c.in_ok-add.ensures.1 c.in_ok-add.ensures.2 c.along_links.ensures.counted;
     }

@@ -4,14 +4,14 @@ use Rattle.paths.specs.Walks.{free, beyond}
 use Rattle.paths.proofs.Counting.{Going}
 use Rattle.paths.proofs.walking.+along_links_at_node.Given as goal
 
-abbrev pub decreases-along-links : goal.decreases-along-links
-decreases-along-links l = 2 * free l.trail.now.marked + 1
+abbrev pub decreases-along_links : goal.decreases-along_links
+decreases-along_links l = 2 * free l.trail.now.marked + 1
 
-abbrev pub decreases-at-node : goal.decreases-at-node
-decreases-at-node l = 2 * free l.trail.now.marked
+abbrev pub decreases-at_node : goal.decreases-at_node
+decreases-at_node l = 2 * free l.trail.now.marked
 
-abbrev pub invariant-along-links-loop-step : goal.invariant-along-links-loop-step
-invariant-along-links-loop-step l =
+abbrev pub invariant-along_links-loop-step : goal.invariant-along_links-loop-step
+invariant-along_links-loop-step l =
     (l.trail ≡ l.initial.trail)
     × Going (length l.items)
     (beyond l.items (roads_in l.roads) l.initial.trail.marked l.node l.live (get_or (roads_in l.roads) l.node []))

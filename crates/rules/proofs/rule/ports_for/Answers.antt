@@ -13,6 +13,6 @@ returns-in-Ok c =
 
 pub returns-in-Err : goal.returns-in-Err
 returns-in-Err c =
-    ap (λ (k : Cause). refuse {A = PortSet} k c.place-at.result) c.cause-of.ensures
-    ∙ ap (refuse {A = PortSet} _) c.place-at.ensures
+    ap (λ (k : Cause). refuse {A = PortSet} k c.place_at.result) c.cause_of.ensures
+    ∙ ap (refuse {A = PortSet} _) c.place_at.ensures
     ∙ ap (placed_at c.args.places.now) (c.in-Err.ensures.is ∙ united_by_items (plan c.args.site.now).links (length (plan c.args.site.now).nodes) 0 (record { bits = 0 }) c.args.patterns.now)

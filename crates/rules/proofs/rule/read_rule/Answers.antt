@@ -10,6 +10,6 @@ returns g c =
     let T = c.args.text.now in
     let at = c.args.place in
     record {
-      is = c.read-parts.ensures;
-      law = subst (ReadAsWritten g.K.Kind.sense s T at) (sym c.read-parts.ensures) (read_as_written g.K.Kind.sense s T at);
+      is = c.read_parts.ensures;
+      law = subst (ReadAsWritten g.K.Kind.sense s T at) (sym c.read_parts.ensures) (read_as_written g.K.Kind.sense s T at);
     }

@@ -6,8 +6,8 @@ use Rattle.kind.proofs.Numbers.{below_power}
 use Rattle.sections.proofs.Digits.{digit_low, digit_high}
 use Rattle.sections.proofs.action.decimal_of.Goals as goal
 
-pub overflow-sub-b : goal.overflow-sub-b
-overflow-sub-b c = digit_low c.args.digits.now c.loop-b.b-index (omega (arith, c.requires.1))
+pub overflow_sub-b : goal.overflow_sub-b
+overflow_sub-b c = digit_low c.args.digits.now c.loop-b.b-index (omega (arith, c.requires.1))
 
 pub loop-b-preserved : goal.loop-b-preserved
 loop-b-preserved c =

@@ -3,8 +3,8 @@ use Rattle.std.proofs.lemmas.List.Sums.{prefix_len-drop_yes, prefix_len-drop_no,
 use Rattle.kind.specs.Digits.{digit}
 use Rattle.sections.proofs.action.digit_run.Goals as goal
 
-pub returns-then-not-is-digit : goal.returns-then-not-is-digit
-returns-then-not-is-digit c = search (rules, prefix_len-drop_no)
+pub returns-then-not-is_digit : goal.returns-then-not-is_digit
+returns-then-not-is_digit c = search (rules, prefix_len-drop_no)
 
 pub loop-i-preserved : goal.loop-i-preserved
 loop-i-preserved c = search (rules, prefix_len-drop_yes)

@@ -5,4 +5,4 @@ use Rattle.sheet.proofs.lines.put_count.Goals as goal
 
 pub returns : goal.returns
 returns c =
-    then (subst (λ (x : List ℕ). Appended (vec_items c.args.text.now) x (vec_items c.put.new.text)) (c.as-bytes.ensures.value ∙ c.in-ok-digits.ensures.ok) c.in-ok-put.ensures) c.in-ok-put-2.ensures
+    then (subst (λ (x : List ℕ). Appended (vec_items c.args.text.now) x (vec_items c.put.new.text)) (c.as_bytes.ensures.value ∙ c.in_ok-digits.ensures.ok) c.in_ok-put.ensures) c.in_ok-put-2.ensures

@@ -3,5 +3,5 @@ use Rattle.sheet.proofs.lines.put_link_line.Goals as goal
 
 pub returns : goal.returns
 returns c =
-    then c.in-ok-put.ensures (then c.in-ok-put-node.ensures (then c.in-ok-put-2.ensures
-    (then c.in-ok-put-node-2.ensures c.in-ok-put-3.ensures)))
+    then c.in_ok-put.ensures (then c.in_ok-put_node.ensures (then c.in_ok-put-2.ensures
+    (then c.in_ok-put_node-2.ensures c.in_ok-put-3.ensures)))

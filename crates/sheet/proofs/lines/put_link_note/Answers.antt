@@ -7,6 +7,6 @@ use Rattle.sheet.proofs.lines.put_link_note.Goals as goal
 
 pub returns : goal.returns
 returns c =
-    named _ (sym (cond-true _ _ _ (sym c.if-not-ends-at.ensures)))
-    (then c.in-ok-put.ensures (then c.in-ok-put-count.ensures
-    (then (named _ (ap (name_at (plan c.args.site.now)) c.far-end.ensures) c.in-ok-put-node.ensures) c.in-ok-put-2.ensures)))
+    named _ (sym (cond-true _ _ _ (sym c.if-not-ends_at.ensures)))
+    (then c.in_ok-put.ensures (then c.in_ok-put_count.ensures
+    (then (named _ (ap (name_at (plan c.args.site.now)) c.far_end.ensures) c.in_ok-put_node.ensures) c.in_ok-put-2.ensures)))

@@ -7,7 +7,7 @@ use Rattle.sheet.proofs.lines.put_link_notes.Goals as goal
 
 pub loop-i-preserved : goal.loop-i-preserved
 loop-i-preserved c =
-    written_more (link_note (plan c.args.site.now) c.args.node) c.links-links.result.now (vec_items c.args.text.now) c.loop-i.i (vec_items c.loop-i.text) c.loop-i.invariant nowhere _ c.loop-i-test.true c.in-ok-put-link-note.ensures
+    written_more (link_note (plan c.args.site.now) c.args.node) c.links-links.result.now (vec_items c.args.text.now) c.loop-i.i (vec_items c.loop-i.text) c.loop-i.invariant nowhere _ c.loop-i-test.true c.in_ok-put_link_note.ensures
 
 pub returns : goal.returns
 returns c =

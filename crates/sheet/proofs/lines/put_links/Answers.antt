@@ -7,7 +7,7 @@ use Rattle.sheet.proofs.lines.put_links.Goals as goal
 
 pub loop-i-preserved : goal.loop-i-preserved
 loop-i-preserved c =
-    written_more (λ _ x. link_line (plan c.args.site.now) x) c.links-links.result.now (vec_items c.args.text.now) c.loop-i.i (vec_items c.loop-i.text) c.loop-i.invariant nowhere _ c.loop-i-test.true c.in-ok-put-link-line.ensures
+    written_more (λ _ x. link_line (plan c.args.site.now) x) c.links-links.result.now (vec_items c.args.text.now) c.loop-i.i (vec_items c.loop-i.text) c.loop-i.invariant nowhere _ c.loop-i-test.true c.in_ok-put_link_line.ensures
 
 pub returns : goal.returns
 returns c =

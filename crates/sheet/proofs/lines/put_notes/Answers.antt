@@ -8,8 +8,8 @@ use Rattle.sheet.specs.Sheets.{each_from, node_note}
 use Rattle.sheet.proofs.Putting.{named, written_more, written_all, each_map}
 use Rattle.sheet.proofs.lines.put_notes.Goals as goal
 
-pub overflow-cast-i : goal.overflow-cast-i
-overflow-cast-i c =
+pub overflow_cast-i : goal.overflow_cast-i
+overflow_cast-i c =
     let few = items_within c.args.site.now.draft.nodes.list in
     let long = length-map (items c.args.site.now.draft.nodes.list) spelling in
     let same = sym (length-map c.nodes-names.result.now spelling) ∙ ap length c.nodes-names.ensures in
@@ -18,7 +18,7 @@ overflow-cast-i c =
 pub loop-i-preserved : goal.loop-i-preserved
 loop-i-preserved c =
     written_more (λ k name. node_note (plan c.args.site.now) k (spelling name)) c.nodes-names.result.now (vec_items c.args.text.now) c.loop-i.i (vec_items c.loop-i.text) c.loop-i.invariant c.index-names-i.result _ c.loop-i-test.true
-    (named _ (ap (node_note (plan c.args.site.now) c.loop-i.i) (c.as-bytes.ensures ∙ ap spelling c.index-names-i.is)) c.in-ok-put-note.ensures)
+    (named _ (ap (node_note (plan c.args.site.now) c.loop-i.i) (c.as_bytes.ensures ∙ ap spelling c.index-names-i.is)) c.in_ok-put_note.ensures)
 
 pub returns : goal.returns
 returns c =

@@ -8,8 +8,8 @@ use Rattle.sheet.specs.Sheets.{each_from, user_line}
 use Rattle.sheet.proofs.Putting.{named, written_more, written_all, each_map}
 use Rattle.sheet.proofs.lines.put_users.Goals as goal
 
-pub overflow-cast-i : goal.overflow-cast-i
-overflow-cast-i c =
+pub overflow_cast-i : goal.overflow_cast-i
+overflow_cast-i c =
     let few = items_within c.args.site.now.draft.users.roster.list in
     let long = length-map (items c.args.site.now.draft.users.roster.list) spelling in
     let same = sym (length-map c.users-names.result.now spelling) ∙ ap length c.users-names.ensures in
@@ -18,7 +18,7 @@ overflow-cast-i c =
 pub loop-i-preserved : goal.loop-i-preserved
 loop-i-preserved c =
     written_more (λ k name. user_line (plan c.args.site.now) k (spelling name)) c.users-names.result.now (vec_items c.args.text.now) c.loop-i.i (vec_items c.loop-i.text) c.loop-i.invariant c.index-names-i.result _ c.loop-i-test.true
-    (named _ (ap (user_line (plan c.args.site.now) c.loop-i.i) (c.as-bytes.ensures ∙ ap spelling c.index-names-i.is)) c.in-ok-put-user-line.ensures)
+    (named _ (ap (user_line (plan c.args.site.now) c.loop-i.i) (c.as_bytes.ensures ∙ ap spelling c.index-names-i.is)) c.in_ok-put_user_line.ensures)
 
 pub returns : goal.returns
 returns c =

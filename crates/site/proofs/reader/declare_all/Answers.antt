@@ -21,8 +21,8 @@ loop-rest-init c = record {
 pub returns-in-empty : goal.returns-in-empty
 returns-in-empty c = let none : length c.loop-rest.rest.now ≡ 0 = grind arith in ends_here c.loop-rest.invariant none
 
-pub returns-in-default : goal.returns-in-default
-returns-in-default c =
+pub returns-in_default : goal.returns-in_default
+returns-in_default c =
     let some : 0 < length c.loop-rest.rest.now = grind arith in
     let few : length c.loop-rest.rest.now < 3 = grind arith in
     stops c.loop-rest.invariant _ some (short c.loop-rest.at (plan_of c.loop-rest.draft) c.loop-rest.rest.now few)
@@ -33,8 +33,8 @@ returns-then-tail-len c =
     let three = long (goal.at.returns-then-tail-len c).In-len3-up in
     stops c.loop-rest.invariant _ (omega arith) (cut c.loop-rest.at (plan_of c.loop-rest.draft) c.loop-rest.rest.now (omega arith) (omega arith))
 
-pub overflow-add-at-in-len3-up : goal.overflow-add-at-in-len3-up
-overflow-add-at-in-len3-up c = omega (arith, length_tail c.loop-rest.rest.now, c.loop-rest.invariant.upto)
+pub overflow_add-at-in-len3-up : goal.overflow_add-at-in-len3-up
+overflow_add-at-in-len3-up c = omega (arith, length_tail c.loop-rest.rest.now, c.loop-rest.invariant.upto)
 
 pub returns-in-Err : goal.returns-in-Err
 returns-in-Err c =
@@ -53,4 +53,4 @@ loop-rest-preserved c =
     (one_more c.loop-rest.invariant (plan_of c.declare.new.self) (omega arith)
     (judged c.loop-rest.at (plan_of c.loop-rest.draft) c.loop-rest.rest.now (omega arith) (omega arith)
     ∙ ap (λ b. placed c.loop-rest.at (declare (plan_of c.loop-rest.draft) (field (get_or c.loop-rest.rest.now 0 0) b))) (front_is c.loop-rest.rest.now (body_length c.loop-rest.rest.now))
-    ∙ ap (placed c.loop-rest.at) c.in-default-declare.ensures.declared))
+    ∙ ap (placed c.loop-rest.at) c.in_default-declare.ensures.declared))

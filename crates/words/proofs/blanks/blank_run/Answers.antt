@@ -3,8 +3,8 @@ use Rattle.std.proofs.lemmas.List.Sums.{prefix_len-drop_yes, prefix_len-drop_no,
 use Rattle.words.specs.Words.{blank}
 use Rattle.words.proofs.blanks.blank_run.Goals as goal
 
-pub returns-then-not-is-blank : goal.returns-then-not-is-blank
-returns-then-not-is-blank c = search (rules, prefix_len-drop_no)
+pub returns-then-not-is_blank : goal.returns-then-not-is_blank
+returns-then-not-is_blank c = search (rules, prefix_len-drop_no)
 
 pub loop-i-preserved : goal.loop-i-preserved
 loop-i-preserved c = search (rules, prefix_len-drop_yes)

@@ -5,5 +5,5 @@ use Rattle.words.proofs.blanks.more.Goals as goal
 
 pub returns : goal.returns
 returns c =
-    let e = more_rest c.args.text.now c.args.place c.min-from.result c.min-from.ensures _ c.blank-run.ensures.is in
+    let e = more_rest c.args.text.now c.args.place c.min-from.result c.min-from.ensures _ c.blank_run.ensures.is in
     record { is = e; law = subst (More c.args.text.now c.args.place) (sym e) (more_law c.args.text.now c.args.place) }

@@ -5,8 +5,8 @@ use Rattle.words.proofs.Standing.{as_it_stands}
 use Rattle.words.proofs.Steps.{value_moved}
 use Rattle.words.proofs.words.value_from.Goals as goal
 
-pub overflow-add-result-in-Err : goal.overflow-add-result-in-Err
-overflow-add-result-in-Err c = omega (arith, c.in-Err.ensures.within, length_from c.args.text.now c.args.at c.min-start.result c.min-start.ensures)
+pub overflow_add-result-in-Err : goal.overflow_add-result-in-Err
+overflow_add-result-in-Err c = omega (arith, c.in-Err.ensures.within, length_from c.args.text.now c.args.at c.min-start.result c.min-start.ensures)
 
 pub returns-in-Ok : goal.returns-in-Ok
 returns-in-Ok c =

@@ -3,8 +3,8 @@ use Rattle.std.proofs.lemmas.List.Sums.{prefix_len-drop_yes, prefix_len-drop_no,
 use Rattle.words.specs.Words.{value_byte}
 use Rattle.words.proofs.words.value_run.Goals as goal
 
-pub returns-then-not-is-value-byte : goal.returns-then-not-is-value-byte
-returns-then-not-is-value-byte c = search (rules, prefix_len-drop_no)
+pub returns-then-not-is_value_byte : goal.returns-then-not-is_value_byte
+returns-then-not-is_value_byte c = search (rules, prefix_len-drop_no)
 
 pub loop-i-preserved : goal.loop-i-preserved
 loop-i-preserved c = search (rules, prefix_len-drop_yes)

@@ -11,8 +11,8 @@ returns c =
     let n : ℕ = c.args.n in
     record {
       letters =
-          three (letters c.args.self.now) (letters c.push-if.new.self) (letters c.push-if-2.new.self) (letters c.push.new.self)
+          three (letters c.args.self.now) (letters c.push_if.new.self) (letters c.push_if-2.new.self) (letters c.push.new.self)
           (cond (leb 100 n) ((48 + n / 100) ∷ []) []) (cond (leb 10 n) ((48 + n / 10 % 10) ∷ []) []) ((48 + n % 10) ∷ [])
-          c.push-if.ensures.letters c.push-if-2.ensures.letters c.push.ensures.letters;
-      len = omega (arith, c.push-if.ensures.len, c.push-if-2.ensures.len, c.push.ensures.len);
+          c.push_if.ensures.letters c.push_if-2.ensures.letters c.push.ensures.letters;
+      len = omega (arith, c.push_if.ensures.len, c.push_if-2.ensures.len, c.push.ensures.len);
     }

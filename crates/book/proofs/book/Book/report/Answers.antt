@@ -13,7 +13,7 @@ returns g c =
     let b = c.args.self.now in
     let k = g.K.Kind.sense in
     let old = c.args.list.now in
-    let new = c.list-pairs.new.list in
-    let a = c.list-pairs.result in
-    let m : Listed (map_of b) k (rules b) old a new = rw (sub-zero, c.used-n.ensures.front) at c.list-pairs.ensures in
+    let new = c.list_pairs.new.list in
+    let a = c.list_pairs.result in
+    let m : Listed (map_of b) k (rules b) old a new = rw (sub-zero, c.used-n.ensures.front) at c.list_pairs.ensures in
     record { takes = keeps k b (report old a new) (lists m) refl; law = listed (map_of b) k g.met.K.Kind.laws (sealed b.site.now) old new a m }

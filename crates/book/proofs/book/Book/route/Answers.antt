@@ -16,12 +16,12 @@ returns-then-out-lt48 g c =
     let x : Right (map_of b) k (room b) (rules b) (route c.args.position c.args.port out (refuse NoRoom 0) out) = short_buffer c.if-out-lt48.true in
     record { takes = keeps k b _ x refl; law = asked k b c.args.position c.args.port out out (refuse NoRoom 0) x }
 
-pub returns-then-not-is-port : goal.returns-then-not-is-port
-returns-then-not-is-port g c =
+pub returns-then-not-is_port : goal.returns-then-not-is_port
+returns-then-not-is_port g c =
     let b = c.args.self.now in
     let k = g.K.Kind.sense in
     let out = c.args.out.now in
-    let x : Right (map_of b) k (room b) (rules b) (route c.args.position c.args.port out (refuse NoPortOrClass 0) out) = no_port c.if-out-lt48.false (sym c.if-not-is-port.ensures) in
+    let x : Right (map_of b) k (room b) (rules b) (route c.args.position c.args.port out (refuse NoPortOrClass 0) out) = no_port c.if-out-lt48.false (sym c.if-not-is_port.ensures) in
     record { takes = keeps k b _ x refl; law = asked k b c.args.position c.args.port out out (refuse NoPortOrClass 0) x }
 
 pub returns-in-Some : goal.returns-in-Some
@@ -42,5 +42,5 @@ returns-in-None g c =
     let after = c.draw.new.out in
     let none : NoneDrawn (map_of b) (rules b) c.args.position c.args.port = rw (sub-zero, c.used-n.ensures.front) at c.in-None.ensures.1 in
     let x : Right (map_of b) k (room b) (rules b) (route c.args.position c.args.port out (refuse NotTouched 0) after) =
-    subst (λ z. Right (map_of b) k (room b) (rules b) (route c.args.position c.args.port out (refuse NotTouched 0) z)) (sym c.in-None.ensures.0) (untouched c.if-out-lt48.false (sym c.if-not-is-port.ensures) none) in
+    subst (λ z. Right (map_of b) k (room b) (rules b) (route c.args.position c.args.port out (refuse NotTouched 0) z)) (sym c.in-None.ensures.0) (untouched c.if-out-lt48.false (sym c.if-not-is_port.ensures) none) in
     record { takes = keeps k b _ x refl; law = asked k b c.args.position c.args.port out after (refuse NotTouched 0) x }

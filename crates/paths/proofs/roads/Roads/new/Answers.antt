@@ -10,12 +10,12 @@ loop-node-init c = (refl, λ k d h. absurd (omega arith))
 
 pub loop-node-preserved : goal.loop-node-preserved
 loop-node-preserved c = (
-  length-set c.loop-node.of c.loop-node.node c.steps-of.result ∙ c.loop-node.invariant.0,
-  fills_more (steps_of 0 c.args.links.now) items c.loop-node.of c.loop-node.node c.steps-of.result (omega (arith, c.loop-node.invariant.0)) c.steps-of.ensures c.loop-node.invariant.1,
+  length-set c.loop-node.of c.loop-node.node c.steps_of.result ∙ c.loop-node.invariant.0,
+  fills_more (steps_of 0 c.args.links.now) items c.loop-node.of c.loop-node.node c.steps_of.result (omega (arith, c.loop-node.invariant.0)) c.steps_of.ensures c.loop-node.invariant.1,
 )
 
-pub invariant-of-result : goal.invariant-of-result
-invariant-of-result c = (c.loop-node.invariant.0, tt)
+pub invariant_of-result : goal.invariant_of-result
+invariant_of-result c = (c.loop-node.invariant.0, tt)
 
 pub returns : goal.returns
 unfolding roads_over

@@ -5,7 +5,7 @@ use Rattle.site.specs.declared.parts.Link.{Link}
 use Rattle.site.specs.Links.{links_at}
 use Rattle.site.proofs.Asking.{Found, passed, noted, found_all}
 use Rattle.site.proofs.sealed.Site.links_of.Goals as goal
-use Rattle.site.proofs.sealed.Site.links_of.Goals.{then-ends-at, else-ends-at}
+use Rattle.site.proofs.sealed.Site.links_of.Goals.{then-ends_at, else-ends_at}
 
 pub loop-i-init : goal.loop-i-init
 loop-i-init c = record {
@@ -16,11 +16,11 @@ loop-i-init c = record {
 pub loop-i-preserved : goal.loop-i-preserved
 loop-i-preserved c =
     let few : length c.links-links.result.now ≤ 64 = omega (arith, ap length c.links-links.ensures, items_within c.args.self.now.draft.links) in
-    elim c.if-ends-at.branch [
-      | then-ends-at w ↦ subst (λ (t : _). Found c.links-links.result.now c.args.node (c.loop-i.i + 1) (items t)) (sym w.numbers-is)
-          (noted c.links-links.result.now c.args.node c.loop-i.i (items c.loop-i.numbers) c.loop-i.invariant w.push.result (items w.push.new.self) c.loop-i-test.true few (sym c.ends-at.ensures ∙ w.if-ends-at.true) w.push.ensures.test w.push.ensures.items)
-      | else-ends-at w ↦ subst (λ (t : _). Found c.links-links.result.now c.args.node (c.loop-i.i + 1) (items t)) (sym w.numbers-is)
-          (passed c.links-links.result.now c.args.node c.loop-i.i (items c.loop-i.numbers) c.loop-i.invariant c.loop-i-test.true (sym c.ends-at.ensures ∙ w.if-ends-at.false))
+    elim c.if-ends_at.branch [
+      | then-ends_at w ↦ subst (λ (t : _). Found c.links-links.result.now c.args.node (c.loop-i.i + 1) (items t)) (sym w.numbers-is)
+          (noted c.links-links.result.now c.args.node c.loop-i.i (items c.loop-i.numbers) c.loop-i.invariant w.push.result (items w.push.new.self) c.loop-i-test.true few (sym c.ends_at.ensures ∙ w.if-ends_at.true) w.push.ensures.test w.push.ensures.items)
+      | else-ends_at w ↦ subst (λ (t : _). Found c.links-links.result.now c.args.node (c.loop-i.i + 1) (items t)) (sym w.numbers-is)
+          (passed c.links-links.result.now c.args.node c.loop-i.i (items c.loop-i.numbers) c.loop-i.invariant c.loop-i-test.true (sym c.ends_at.ensures ∙ w.if-ends_at.false))
     ]
 
 pub returns : goal.returns
