@@ -29,8 +29,11 @@ def each(endings):
 
 def main():
     source = set(OWN)
+    cycles = set()
     for path in each((".rt",)):
+        cycles |= set(re.findall(r"#\[cycle\((\w+)\)\]", read(path)))
         source |= set(re.findall(r"\b[A-Za-z][A-Za-z0-9]*(?:_[A-Za-z0-9]+)+\b", read(path)))
+    source -= cycles
     for path in each(("Answers.antt", "Invariants.antt")):
         text = read(path)
         kept = set()

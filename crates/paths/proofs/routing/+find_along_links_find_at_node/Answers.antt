@@ -34,8 +34,8 @@ find_along_links-returns t c =
       drawn = ways_over (length c.args.items.now) c.args.items.now (roads_in c.args.roads.now) c.args.trail.now.marked c.args.tip.node c.args.tip.live c.loop-step.step-index c.args.link c.args.tip.met (get_or (roads_in c.args.roads.now) c.args.tip.node []) c.args.tip.depth c.args.out.now c.loop-step.out past c.loop-step.invariant.1 c.loop-step.invariant.2;
     }
 
-pub find_along_links_find_at_node-requires : goal.find_along_links_find_at_node-requires
-find_along_links_find_at_node-requires t c =
+pub find_along_links-find_at_node-requires : goal.find_along_links-find_at_node-requires
+find_along_links-find_at_node-requires t c =
     let same : c.loop-step.trail ≡ c.args.trail.now = c.loop-step.invariant.0 in
     let d : Step = record { link = 0; node = 0 } in
     let frees : free c.loop-step.trail.marked ≡ free c.args.trail.now.marked = ap (λ (x : Trail). free x.marked) same in

@@ -15,7 +15,7 @@ loop-node-preserved c = (
 )
 
 pub invariant_of-result : goal.invariant_of-result
-invariant_of-result c = (c.loop-node.invariant.0, tt)
+invariant_of-result c = record { whole = c.loop-node.invariant.0 }
 
 pub returns : goal.returns
 unfolding roads_over
