@@ -15,5 +15,5 @@ returns-in-60-2 c = record { is = grind (arith, nat_tests, get_or_past c.args.pa
 pub returns-in_default : goal.returns-in_default
 returns-in_default c = record { is = grind (arith, nat_tests, get_or_past c.args.part.now 0 0); within = grind (arith, nat_tests) }
 
-pub returns-in_default·2 : goal.returns-in_default·2
-returns-in_default·2 c = record { is = grind (arith, nat_tests, get_or_past c.args.part.now 1 0); within = grind (arith, nat_tests) }
+pub returns-in_default-2 : goal.returns-in_default-2
+returns-in_default-2 c = record { is = grind (arith, nat_tests, get_or_past c.args.part.now 1 0); within = grind (arith, nat_tests) }
