@@ -29,14 +29,14 @@ module _ {C P : Type 0} (site : Plan) (k : Sense C P) where
       let t : AllTouching site k stand = subst (λ z. AllTouching site k z) (stands_so site k h l) (λ r x. touching_so site k fit h l r x) in
       let n : Reports site k stand old list pairs unsettled = subst (λ z. Reports site k z old list pairs unsettled) (stands_so site k h l) now in
       record {
-        named = λ i j d. pair_by_paths site k stand i j t (subst (λ z. Clashing site k stand z j) d.2 (subst (λ z. Clashing site k stand d.0.first z) d.3 (told laws stand d.0 (n.names.only.true_of d.0 d.1))));
+        named = λ i j d. pair_by_paths site k stand i j t (subst (λ z. Clashing site k stand z j) d.2 (subst (λ z. Clashing site k stand d.0.first z) d.3 (told site k laws stand d.0 (n.names.only.true_of d.0 d.1))));
         every = λ i j c. n.names.every i j (pair_by_ports site k stand i j t c);
         once = n.names.only.in_order;
         as_defined = n.names.only.true_of;
         shown = λ e q r d p o. (
             let u = n.names.only.true_of e d in
             by_paths site k q r e.port e.class e.point (t q (nth_has stand e.first q p)) (t r (nth_has stand e.second r o))
-            (shows laws q r e (subst (λ z. Tells site k z r e) (nth_one u.first_is p) (subst (λ z. Tells site k u.q z e) (nth_one u.second_is o) u.tells))));
+            (shows site k laws q r e (subst (λ z. Tells site k z r e) (nth_one u.first_is p) (subst (λ z. Tells site k u.q z e) (nth_one u.second_is o) u.tells))));
         counted = length-take-le pairs list (omega (arith, n.room, n.same_length));
         open_ones = sym n.open_ones;
         open_when = λ e q r d p o. (
@@ -49,6 +49,6 @@ module _ {C P : Type 0} (site : Plan) (k : Sense C P) where
       }
 
   -- the same of any right answer
-  pub listed : Laws k → Sealed site → {room : ℕ} {rs : List (Ruling C)} (old list : List (Entry P)) (a : Result Totals Refusal) → Listed site k rs old a list → IfOk a (λ t. (h : List (Step P)) → LedTo site k room h rs → Reported site k h list t.pairs t.unsettled)
-  listed laws fit old list a (reports {totals = t} m) = reported laws fit old list t.pairs t.unsettled m
-  listed laws fit old list a (short_list n l) = tt
+  pub listed : Laws k → Sealed site → (room : ℕ) {rs : List (Ruling C)} (old list : List (Entry P)) (a : Result Totals Refusal) → Listed site k rs old a list → IfOk a (λ t. (h : List (Step P)) → LedTo site k room h rs → Reported site k h list t.pairs t.unsettled)
+  listed laws fit size old list a (reports {totals = t} m) = reported laws fit old list t.pairs t.unsettled m
+  listed laws fit size old list a (short_list n l) = tt
