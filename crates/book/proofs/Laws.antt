@@ -17,12 +17,12 @@ use Rattle.pairs.specs.declared.answers.Mark.TheVariants.{Open, First, Second}
 use Rattle.pairs.specs.declared.answers.Totals.{Totals}
 use Rattle.deciding.specs.declared.settling.Decision.{Decision}
 use Rattle.deciding.specs.declared.settling.Decision.TheVariants.{Split}
-use Rattle.deciding.specs.Deciding.{Held, Decides}
+use Rattle.deciding.specs.Deciding.{Held, Decides, DecidesBy}
 use Rattle.pairs.specs.Disagreement.{saying, opposed, mark_of, Contradict, ContradictAt}
 use Rattle.book.specs.Drawing.{Touching, Reached, DrawnAt}
 use Rattle.pairs.specs.Lists.{Has, here, there}
-use Rattle.pairs.specs.Pairs.{opens, one_open, NamesAll, reports, short_list}
-use Rattle.book.specs.Runs.{Step, admit, withdraw, report, decide, route, Known, without, read, RemovesNone, AddsNone, Settled, Mentions, after, standing, Right, admits, unread, id_stands, full, withdraws, no_such_id, lists, decides, no_port_or_class, off_ground, routes, short_buffer, no_port, untouched, LedTo, at_first, next, Decided, Routed}
+use Rattle.pairs.specs.Pairs.{opens, one_open, NamesAll}
+use Rattle.book.specs.Runs.{Step, admit, withdraw, report, decide, route, Known, without, read, RemovesNone, AddsNone, Settled, Mentions, after, standing, Right, admits, unread, id_stands, full, withdraws, no_such_id, reports, short_list, decides, no_port_or_class, off_ground, routes, short_buffer, no_port, untouched, LedTo, at_first, next, Decided, DecidedByPaths, Routed}
 use Rattle.pairs.proofs.Having.{has_cases, has_none, has_one, has_nth, nth_has, nth_longer, nth_one}
 use Rattle.book.proofs.Reader.{Sealed, read_touching}
 use Rattle.deciding.proofs.Voices.{decides_also}
@@ -99,7 +99,7 @@ module _ {C P : Type 0} (s : Plan) (k : Sense C P) where
   level a b p q = omega arith
 
   -- where there is peace, no decision is split
-  pub no_split : (rs : List (Ruling C)) (port : Port) (class : ℕ) (point : P) → class < length s.classes → Peace rs → Decides s k (Held s) rs port class point Split → ⊥
+  pub no_split : (rs : List (Ruling C)) (port : Port) (class : ℕ) (point : P) → class < length s.classes → Peace rs → Decides s k rs port class point Split → ⊥
   no_split rs port class point lc peace (v, w) =
       peace v.r w.r v.stands w.stands
       (record {
@@ -139,7 +139,7 @@ module _ {C P : Type 0} (s : Plan) (k : Sense C P) where
 
   -- peace lasts while no rule is added
   pub lasting : {room : ℕ} (later earlier : List (Step P)) (old new : List (Entry P)) (totals : Totals) → totals.unsettled ≡ 0 → {rs : List (Ruling C)} → LedTo s k room (later ++ report old (Ok totals) new ∷ earlier) rs → AddsNone later → Peace rs
-  lasting [] earlier old new totals z (next {rs = rs} c l (lists (reports m))) u = peace_now rs (take totals.pairs new) m.names (sym m.open_ones ∙ z)
+  lasting [] earlier old new totals z (next {rs = rs} c l (reports m)) u = peace_now rs (take totals.pairs new) m.names (sym m.open_ones ∙ z)
   lasting (admit text place (Ok end) ∷ later) earlier old new totals z l u = absurd (u text place end here)
   lasting (admit text place (Err why) ∷ later) earlier old new totals z (next c l x) u = lasting later earlier old new totals z l (λ a b d h. u a b d (there h))
   lasting (withdraw id (Ok t) ∷ later) earlier old new totals z (next {rs = rs} c l x) u = λ q r hq hr d same. lasting later earlier old new totals z l (λ a b e h. u a b e (there h)) q r (has_without id rs q hq) (has_without id rs r hr) d same
@@ -154,7 +154,7 @@ module _ {C P : Type 0} (s : Plan) (k : Sense C P) where
 
   -- what a report names keeps its place while no rule is taken away
   pub still : Sealed s → {room : ℕ} (later earlier : List (Step P)) (old new : List (Entry P)) (totals : Totals) (position : ℕ) (port : Port) (e : Entry P) → Has (take totals.pairs new) e → (position ≡ e.first) ⊎ (position ≡ e.second) → port ≡ e.port → {rs : List (Ruling C)} → LedTo s k room (later ++ report old (Ok totals) new ∷ earlier) rs → RemovesNone later → HasPort rs position port
-  still fit [] earlier old new totals position port e d at p (next {rs = rs} c l (lists (reports m))) u =
+  still fit [] earlier old new totals position port e d at p (next {rs = rs} c l (reports m)) u =
       let t = m.names.only.true_of e d in
       let o = t.tells.port_is.shared in
       elim at [
@@ -181,12 +181,16 @@ module _ {C P : Type 0} (s : Plan) (k : Sense C P) where
   routed fit position port old new a (untouched le on n) h l = record { accepted = λ _ m. absurd (let q = mentioned fit h position port l m in n q.0 q.1 q.2); drawn = tt }
 
   -- the law of a decision, from what is decided now
-  pub decided : Sealed s → {room : ℕ} {rs : List (Ruling C)} (port : Port) (class : ℕ) (point : P) (d : Decision) → class < length s.classes → Decides s k (Held s) rs port class point d → (h : List (Step P)) → LedTo s k room h rs → Decided s k h port class point d
+  pub decided : Sealed s → {room : ℕ} {rs : List (Ruling C)} (port : Port) (class : ℕ) (point : P) (d : Decision) → class < length s.classes → Decides s k rs port class point d → (h : List (Step P)) → LedTo s k room h rs → Decided s k h port class point d
   decided fit {room} {rs} port class point d lc x h l = record {
-    as_defined = subst (λ z. Decides s k (Reached s) z port class point d) (sym (as_said l))
-        (decides_also s k port class point rs (Held s) (Reached s) (λ r i t. (touching_so fit h l r i port).0 t) (λ r i t. (touching_so fit h l r i port).1 t) d x);
-    never_split = λ t e. no_split rs port class point lc (lasting t.later t.earlier t.old t.new t.totals t.none_open (subst (λ z. LedTo s k room z rs) t.is l) t.quiet) (subst (λ z. Decides s k (Held s) rs port class point z) e x);
+    as_defined = subst (λ z. Decides s k z port class point d) (sym (as_said l)) x;
+    never_split = λ t e. no_split rs port class point lc (lasting t.later t.earlier t.old t.new t.totals t.none_open (subst (λ z. LedTo s k room z rs) t.is l) t.quiet) (subst (λ z. Decides s k rs port class point z) e x);
   }
+
+  -- the same by own paths
+  pub decided_by_paths : Sealed s → {room : ℕ} {rs : List (Ruling C)} (port : Port) (class : ℕ) (point : P) (d : Decision) → Decides s k rs port class point d → (h : List (Step P)) → LedTo s k room h rs → DecidedByPaths s k h port class point d
+  decided_by_paths fit {room} {rs} port class point d x h l = subst (λ z. DecidesBy s k (Reached s) z port class point d) (sym (as_said l))
+      (decides_also s k port class point rs (Held s) (Reached s) (λ r i t. (touching_so fit h l r i port).0 t) (λ r i t. (touching_so fit h l r i port).1 t) d x)
 
   -- a right answer lengthens every history
   pub lengthened : {room room' : ℕ} {rs rs' : List (Ruling C)} (c : Step P) → Right s k room rs c → rs' ≡ after s k c rs → room' ≡ room → (h : List (Step P)) → LedTo s k room h rs → LedTo s k room' (c ∷ h) rs'

@@ -17,12 +17,12 @@ use Rattle.pairs.specs.declared.answers.Mark.TheVariants.{Open, First, Second}
 use Rattle.pairs.specs.declared.answers.Totals.{Totals}
 use Rattle.deciding.specs.declared.settling.Decision.{Decision}
 use Rattle.deciding.specs.declared.settling.Decision.TheVariants.{Permit, Deny, Split, Silent}
-use Rattle.deciding.specs.Deciding.{Held, Decides}
+use Rattle.deciding.specs.Deciding.{Decides}
 use Rattle.pairs.specs.Disagreement.{mark_of}
 use Rattle.book.specs.Drawing.{DrawnAt, NoneDrawn}
 use Rattle.pairs.specs.Lists.{Has, here, there}
-use Rattle.pairs.specs.Pairs.{InOrder, Alike, one_open, opens, Names, NamesAll, Reports, reports, short_list}
-use Rattle.book.specs.Runs.{Step, admit, withdraw, report, decide, route, Known, refusal, Right, admits, unread, id_stands, full, withdraws, no_such_id, lists, decides, no_port_or_class, off_ground, routes, short_buffer, no_port, untouched, OneAnswer}
+use Rattle.pairs.specs.Pairs.{InOrder, Alike, one_open, opens, Names, NamesAll, Reports}
+use Rattle.book.specs.Runs.{Step, admit, withdraw, report, decide, route, Known, refusal, Right, admits, unread, id_stands, full, withdraws, no_such_id, reports, short_list, decides, no_port_or_class, off_ground, routes, short_buffer, no_port, untouched, OneAnswer}
 use Rattle.pairs.proofs.Having.{nth_one}
 use Rattle.pairs.proofs.Alike.{alike_same, lists_alike, lists_exact}
 use Rattle.pairs.proofs.Naming.{no_longer, told, fewer}
@@ -158,31 +158,31 @@ module _ {C P : Type 0} (site : Plan) (k : Sense C P) (laws : Laws k) where
   same_totals t u p q = ap (λ z. record { pairs = z; unsettled = t.unsettled }) p ∙ ap (λ z. record { pairs = u.pairs; unsettled = z }) q
 
   of_report' : (size : ℕ) (rs : List (Ruling C)) (old new new' : List (Entry P)) (a b : Result Totals Refusal) → Right site k size rs (report old a new) → Right site k size rs (report old b new') → a ≡ b
-  of_report' size rs old new new' a b (lists (reports {totals = t} m)) (lists (reports {totals = u} n)) = ap (λ z. Ok z) (same_totals t u
+  of_report' size rs old new new' a b (reports {totals = t} m) (reports {totals = u} n) = ap (λ z. Ok z) (same_totals t u
       (same t.pairs u.pairs (pairs_at_most rs old new new' t.pairs u.pairs t.unsettled u.unsettled m n) (pairs_at_most rs old new' new u.pairs t.pairs u.unsettled t.unsettled n m))
       (same t.unsettled u.unsettled
       (omega (arith, m.open_ones, n.open_ones, opens_at_most rs (take t.pairs new) (take u.pairs new') m.names n.names))
       (omega (arith, m.open_ones, n.open_ones, opens_at_most rs (take u.pairs new') (take t.pairs new) n.names m.names))))
-  of_report' size rs old new new' a b (lists (reports {totals = t} m)) (lists (short_list {es = es} n l)) = absurd (too_few rs old new es t.pairs t.unsettled m n l)
-  of_report' size rs old new new' a b (lists (short_list {es = es} n l)) (lists (reports {totals = t} m)) = absurd (too_few rs old new' es t.pairs t.unsettled m n l)
-  of_report' size rs old new new' a b (lists (short_list n l)) (lists (short_list n' l')) = refl
+  of_report' size rs old new new' a b (reports {totals = t} m) (short_list {es = es} n l) = absurd (too_few rs old new es t.pairs t.unsettled m n l)
+  of_report' size rs old new new' a b (short_list {es = es} n l) (reports {totals = t} m) = absurd (too_few rs old new' es t.pairs t.unsettled m n l)
+  of_report' size rs old new new' a b (short_list n l) (short_list n' l') = refl
 
   one_count : (rs : List (Ruling C)) (old new new' : List (Entry P)) (t u : Totals) → Reports site k rs old new t.pairs t.unsettled → Reports site k rs old new' u.pairs u.unsettled → u.pairs ≡ t.pairs
   one_count rs old new new' t u m n = same u.pairs t.pairs (pairs_at_most rs old new' new u.pairs t.pairs u.unsettled t.unsettled n m) (pairs_at_most rs old new new' t.pairs u.pairs t.unsettled u.unsettled m n)
 
   of_list' : (size : ℕ) (rs : List (Ruling C)) (old new new' : List (Entry P)) (a b : Result Totals Refusal) → Right site k size rs (report old a new) → Right site k size rs (report old b new') → Alike new new'
-  of_list' size rs old new new' a b (lists (reports {totals = t} m)) (lists (reports {totals = u} n)) = lists_alike site k laws rs old new new' t.pairs t.unsettled u.unsettled m (subst (λ z. Reports site k rs old new' z u.unsettled) (one_count rs old new new' t u m n) n)
-  of_list' size rs old new new' a b (lists (reports {totals = t} m)) (lists (short_list {es = es} n l)) = absurd (too_few rs old new es t.pairs t.unsettled m n l)
-  of_list' size rs old new new' a b (lists (short_list {es = es} n l)) (lists (reports {totals = t} m)) = absurd (too_few rs old new' es t.pairs t.unsettled m n l)
-  of_list' size rs old new new' a b (lists (short_list n l)) (lists (short_list n' l')) = alike_same old
+  of_list' size rs old new new' a b (reports {totals = t} m) (reports {totals = u} n) = lists_alike site k laws rs old new new' t.pairs t.unsettled u.unsettled m (subst (λ z. Reports site k rs old new' z u.unsettled) (one_count rs old new new' t u m n) n)
+  of_list' size rs old new new' a b (reports {totals = t} m) (short_list {es = es} n l) = absurd (too_few rs old new es t.pairs t.unsettled m n l)
+  of_list' size rs old new new' a b (short_list {es = es} n l) (reports {totals = t} m) = absurd (too_few rs old new' es t.pairs t.unsettled m n l)
+  of_list' size rs old new new' a b (short_list n l) (short_list n' l') = alike_same old
 
   of_points' : OneGiven k → (size : ℕ) (rs : List (Ruling C)) (old new new' : List (Entry P)) (a b : Result Totals Refusal) → Right site k size rs (report old a new) → Right site k size rs (report old b new') → new ≡ new'
-  of_points' one size rs old new new' a b (lists (reports {totals = t} m)) (lists (reports {totals = u} n)) = lists_exact site k one laws rs old new new' t.pairs t.unsettled u.unsettled m (subst (λ z. Reports site k rs old new' z u.unsettled) (one_count rs old new new' t u m n) n)
-  of_points' one size rs old new new' a b (lists (reports {totals = t} m)) (lists (short_list {es = es} n l)) = absurd (too_few rs old new es t.pairs t.unsettled m n l)
-  of_points' one size rs old new new' a b (lists (short_list {es = es} n l)) (lists (reports {totals = t} m)) = absurd (too_few rs old new' es t.pairs t.unsettled m n l)
-  of_points' one size rs old new new' a b (lists (short_list n l)) (lists (short_list n' l')) = refl
+  of_points' one size rs old new new' a b (reports {totals = t} m) (reports {totals = u} n) = lists_exact site k one laws rs old new new' t.pairs t.unsettled u.unsettled m (subst (λ z. Reports site k rs old new' z u.unsettled) (one_count rs old new new' t u m n) n)
+  of_points' one size rs old new new' a b (reports {totals = t} m) (short_list {es = es} n l) = absurd (too_few rs old new es t.pairs t.unsettled m n l)
+  of_points' one size rs old new new' a b (short_list {es = es} n l) (reports {totals = t} m) = absurd (too_few rs old new' es t.pairs t.unsettled m n l)
+  of_points' one size rs old new new' a b (short_list n l) (short_list n' l') = refl
 
-  one_decision : (rs : List (Ruling C)) (port : Port) (class : ℕ) (point : P) (c d : Decision) → Decides site k (Held site) rs port class point c → Decides site k (Held site) rs port class point d → c ≡ d
+  one_decision : (rs : List (Ruling C)) (port : Port) (class : ℕ) (point : P) (c d : Decision) → Decides site k rs port class point c → Decides site k rs port class point d → c ≡ d
   one_decision rs port class point Permit Permit x y = refl
   one_decision rs port class point Permit Deny x y = absurd (y.0 x.0)
   one_decision rs port class point Permit Split x y = absurd (x.1 y.1)

@@ -28,7 +28,7 @@ use Rattle.sections.specs.Conditions.{no_conditions, condition_section, conditio
 use Rattle.sections.specs.Heads.{head_from}
 use Rattle.sections.specs.Meeting.{onward, read_section}
 use Rattle.sections.specs.Routes.{no_paths, path_section}
-use Rattle.rules.specs.Rules.{Ruling, touched_by, placed_at, ports_for, ruled, after_action, after_condition, after_target_of, after_paths_of, after_head_of, read_rule}
+use Rattle.rules.specs.Rules.{Ruling, touched_by, placed_at, ports_for, ruled, after_action, after_condition, after_target_of, after_paths_of, after_head_of, start_of, read_rule}
 use Rattle.sections.specs.Targets.{no_target, target_section}
 use Rattle.book.specs.Drawing.{Touching}
 use Rattle.pairs.specs.Lists.{Has, here, there}
@@ -65,7 +65,7 @@ placed_ok places (Err w) t e = absurd (no_way e)
 -- the ports of a rule that was read are those that the search found
 read_ports : {C P : Type 0} (s : Plan) (k : Sense C P) (text : List ℕ) (place end : ℕ) (r : Ruling C) → read_rule k s text place ≡ Ok (r, end) → touched_by s.links (length s.nodes) 0 (record { bits = 0 }) r.patterns ≡ Ok r.ports
 read_ports {C} s k text place end r e =
-    let h = went_on (after_head_of k s text) (head_from s text place) (r, end) e in
+    let h = went_on (after_head_of k s text) (head_from s text (start_of text place)) (r, end) e in
     let p = went_on (after_paths_of k s text h.0) (read_section (path_section s.nodes) text no_paths h.0.end) (r, end) h.2 in
     let t = went_on (after_target_of k s text h.0 p.0.0) (read_section (target_section s.classes) text no_target p.0.1) (r, end) p.2 in
     let c = went_on (after_condition s text h.0 p.0.0 t.0.0) (condition_read (read_section (condition_section k.taken) text (no_conditions k.everywhere) t.0.1)) (r, end) t.2 in

@@ -15,11 +15,12 @@ use Rattle.pairs.specs.declared.answers.Mark.TheVariants.{Open}
 use Rattle.pairs.specs.declared.answers.Totals.{Totals}
 use Rattle.deciding.specs.declared.settling.Decision.{Decision}
 use Rattle.deciding.specs.declared.settling.Decision.TheVariants.{Split}
-use Rattle.deciding.specs.Deciding.{Held, Decides}
+use Rattle.deciding.specs.Deciding.{Decides, DecidesBy}
 use Rattle.book.specs.Contradictions.{AtOddsAt, AtOddsPair}
 use Rattle.book.specs.Drawing.{Reached, DrawnAt, NoneDrawn}
+use Rattle.pairs.specs.Disagreement.{ContradictAt}
 use Rattle.pairs.specs.Lists.{Has}
-use Rattle.pairs.specs.Pairs.{Named, InOrder, Alike, opens, SpeaksOf, Listed}
+use Rattle.pairs.specs.Pairs.{Named, InOrder, Alike, opens, SpeaksOf, Clashing, Names, Reports}
 
 -- a call with its answer; of a report also the list, of a route also the buffer, as it was passed and as it came back
 pub data Step (P : Type 0) : Type 0 where
@@ -105,8 +106,9 @@ module _ {C P : Type 0} (s : Plan) (k : Sense C P) where
     full : {text : List ℕ} {place end : ℕ} {r : Ruling C} → read_rule k s text place ≡ Ok (r, end) → (Known r.id rs → ⊥) → room ≤ length rs → Right room rs (admit text place (refuse BookFull r.place))
     withdraws : {id : List ℕ} → Known id rs → Right room rs (withdraw id (Ok tt))
     no_such_id : {id : List ℕ} → (Known id rs → ⊥) → Right room rs (withdraw id (refuse NoSuchId 0))
-    lists : {old new : List (Entry P)} {a : Result Totals Refusal} → Listed s k rs old a new → Right room rs (report old a new)
-    decides : {port : Port} {class : ℕ} {point : P} {d : Decision} → is_port s.links port ≡ true → class < length s.classes → k.on_ground point ≡ true → Decides s k (Held s) rs port class point d → Right room rs (decide port class point (Ok d))
+    reports : {old new : List (Entry P)} {totals : Totals} → Reports s k rs old new totals.pairs totals.unsettled → Right room rs (report old (Ok totals) new)
+    short_list : {old es : List (Entry P)} → Names s k rs es → length old < length es → Right room rs (report old (refuse NoRoom 0) old)
+    decides : {port : Port} {class : ℕ} {point : P} {d : Decision} → is_port s.links port ≡ true → class < length s.classes → k.on_ground point ≡ true → Decides s k rs port class point d → Right room rs (decide port class point (Ok d))
     no_port_or_class : {port : Port} {class : ℕ} {point : P} → (is_port s.links port ≡ false) ⊎ (length s.classes ≤ class) → Right room rs (decide port class point (refuse NoPortOrClass 0))
     off_ground : {port : Port} {class : ℕ} {point : P} → is_port s.links port ≡ true → class < length s.classes → k.on_ground point ≡ false → Right room rs (decide port class point (refuse OffGround 0))
     routes : {position n : ℕ} {port : Port} {old new : List ℕ} → 48 ≤ length old → DrawnAt s rs position port old n new → Right room rs (route position port old (Ok n) new)
@@ -138,19 +140,29 @@ module _ {C P : Type 0} (s : Plan) (k : Sense C P) where
 
   -- the law of an accepted report, of the entries that it wrote, after every history
   pub record Reported (h : List (Step P)) (list : List (Entry P)) (pairs unsettled : ℕ) : Type 0 where
-    pub named : (i j : ℕ) → Named (take pairs list) i j → AtOddsPair s k (standing h) i j
-    pub every : (i j : ℕ) → AtOddsPair s k (standing h) i j → Named (take pairs list) i j
+    pub named : (i j : ℕ) → Named (take pairs list) i j → Clashing s k (standing h) i j
+    pub every : (i j : ℕ) → Clashing s k (standing h) i j → Named (take pairs list) i j
     pub once : InOrder (take pairs list)
     pub as_defined : (e : Entry P) → Has (take pairs list) e → SpeaksOf s k (standing h) e
-    pub shown : (e : Entry P) (q r : Ruling C) → Has (take pairs list) e → slice_get (standing h) e.first ≡ Some q → slice_get (standing h) e.second ≡ Some r → AtOddsAt s k q r e.port e.class e.point
+    pub shown : (e : Entry P) (q r : Ruling C) → Has (take pairs list) e → slice_get (standing h) e.first ≡ Some q → slice_get (standing h) e.second ≡ Some r → ContradictAt s k q r e.port e.class e.point
     pub counted : length (take pairs list) ≡ pairs
     pub open_ones : opens (take pairs list) ≡ unsettled
     pub open_when : (e : Entry P) (q r : Ruling C) → Has (take pairs list) e → slice_get (standing h) e.first ≡ Some q → slice_get (standing h) e.second ≡ Some r → (e.mark ≡ Open → q.rank ≡ r.rank) × (q.rank ≡ r.rank → e.mark ≡ Open)
 
+  -- the same by the rules' own paths: the pairs that a report names are those that are at odds on their own paths
+  pub record ReportedByPaths (h : List (Step P)) (list : List (Entry P)) (pairs : ℕ) : Type 0 where
+    pub named : (i j : ℕ) → Named (take pairs list) i j → AtOddsPair s k (standing h) i j
+    pub every : (i j : ℕ) → AtOddsPair s k (standing h) i j → Named (take pairs list) i j
+    pub shown : (e : Entry P) (q r : Ruling C) → Has (take pairs list) e → slice_get (standing h) e.first ≡ Some q → slice_get (standing h) e.second ≡ Some r → AtOddsAt s k q r e.port e.class e.point
+
   -- the law of an accepted decision, after every history
   pub record Decided (h : List (Step P)) (port : Port) (class : ℕ) (point : P) (d : Decision) : Type 0 where
-    pub as_defined : Decides s k (Reached s) (standing h) port class point d
+    pub as_defined : Decides s k (standing h) port class point d
     pub never_split : Settled h → d ≢ Split
+
+  -- the same by the rules' own paths
+  abbrev pub DecidedByPaths : List (Step P) → Port → ℕ → P → Decision → Type 0
+  DecidedByPaths h port class point d = DecidesBy s k (Reached s) (standing h) port class point d
 
   -- the law of a route, after every history
   pub record Routed (h : List (Step P)) (position : ℕ) (port : Port) (old : List ℕ) (a : Result ℕ Refusal) (new : List ℕ) : Type 0 where

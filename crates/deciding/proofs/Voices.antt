@@ -8,7 +8,7 @@ use Rattle.rules.specs.declared.verdict.Saying.TheVariants as saying
 use Rattle.rules.specs.Rules.{Ruling}
 use Rattle.deciding.specs.declared.settling.Decision.{Decision}
 use Rattle.deciding.specs.declared.settling.Decision.TheVariants.{Permit, Deny, Split, Silent}
-use Rattle.deciding.specs.Deciding.{Speaks, Voice, Decides}
+use Rattle.deciding.specs.Deciding.{VoiceBy, DecidesBy}
 use Rattle.pairs.specs.Lists.{Has}
 
 module _ {C P : Type 0} (s : Plan) (k : Sense C P) (port : Port) (class : ℕ) (point : P) (rs : List (Ruling C)) where
@@ -17,7 +17,7 @@ module _ {C P : Type 0} (s : Plan) (k : Sense C P) (port : Port) (class : ℕ) (
   ImpliesOn T U = (r : Ruling C) → Has rs r → T r port → U r port
 
   module _ (T U : Ruling C → Port → Type 0) (on : ImpliesOn T U) (back : ImpliesOn U T) where
-    voice : (d : Saying) → Voice s k T rs port class point d → Voice s k U rs port class point d
+    voice : (d : Saying) → VoiceBy s k T rs port class point d → VoiceBy s k U rs port class point d
     voice d v = record {
       r = v.r;
       stands = v.stands;
@@ -27,7 +27,7 @@ module _ {C P : Type 0} (s : Plan) (k : Sense C P) (port : Port) (class : ℕ) (
     }
 
   module _ (T U : Ruling C → Port → Type 0) (on : ImpliesOn T U) (back : ImpliesOn U T) where
-    pub decides_also : (d : Decision) → Decides s k T rs port class point d → Decides s k U rs port class point d
+    pub decides_also : (d : Decision) → DecidesBy s k T rs port class point d → DecidesBy s k U rs port class point d
     decides_also Permit x = (voice T U on back saying.Permit x.0, λ v. x.1 (voice U T back on saying.Deny v))
     decides_also Deny x = ((λ v. x.0 (voice U T back on saying.Permit v)), voice T U on back saying.Deny x.1)
     decides_also Split x = (voice T U on back saying.Permit x.0, voice T U on back saying.Deny x.1)

@@ -2,7 +2,7 @@
 ghost use Rattle.std.specs.Prelude.{◌≡◌, ◌||◌, map};
 ghost use Rattle.site.specs.Sites.{plan};
 ghost use Rattle.rules.specs.Rules.{rule_of};
-ghost use Rattle.deciding.specs.Deciding.{Held, Decides};
+ghost use Rattle.deciding.specs.Deciding.{Decides};
 ghost use Rattle.deciding.specs.Tallies.{heard, joined, counted, verdict};
 
 use kind::Kind;
@@ -37,7 +37,7 @@ pub fn settle<K: Kind>(
     class: u8,
     point: &K::Point,
 ) -> Decision
-    ensures { Decides (plan site.now) K.Kind.sense (Held (plan site.now)) (map rule_of rules.now) port class point.now result }
+    ensures { Decides (plan site.now) K.Kind.sense (map rule_of rules.now) port class point.now result }
 {
     let mut tally = Tally {
         spoken: false,

@@ -9,7 +9,7 @@ use Rattle.rules.specs.Grammar.{RuleAt, ReadAsWritten}
 use Rattle.sections.specs.Heads.{Head, head_from}
 use Rattle.sections.specs.Meeting.{onward, read_section}
 use Rattle.sections.specs.Routes.{Paths, no_paths, path_section}
-use Rattle.rules.specs.Rules.{Ruling, ports_for, ruled, after_action, after_condition, after_target_of, after_paths_of, after_head_of, read_rule}
+use Rattle.rules.specs.Rules.{Ruling, ports_for, ruled, after_action, after_condition, after_target_of, after_paths_of, after_head_of, start_of, read_rule}
 use Rattle.sections.specs.Targets.{Targets, no_target, target_section}
 use Rattle.rules.proofs.ConditionLaw.{conditions_written, conditions_read}
 use Rattle.rules.proofs.Courses.{onward_ok, ok_same}
@@ -24,9 +24,9 @@ condition_back (Err e) c f = absurd (no_way f)
 
 module _ {C P : Type 0} (k : Sense C P) (s : Plan) (text : List ℕ) (place : ℕ) where
   -- what is read is written
-  rule_written : (r : Ruling C) (end : ℕ) → read_rule k s text place ≡ Ok (r, end) → RuleAt k s text place r end
+  rule_written : (r : Ruling C) (end : ℕ) → read_rule k s text place ≡ Ok (r, end) → RuleAt k s text (start_of text place) r end
   rule_written r end e =
-      let hd = onward_ok (after_head_of k s text) (r, end) (head_from s text place) e in
+      let hd = onward_ok (after_head_of k s text) (r, end) (head_from s text (start_of text place)) e in
       let h : Head = hd.0 in
       let ph = onward_ok (after_paths_of k s text h) (r, end) (read_section (path_section s.nodes) text no_paths h.end) hd.2 in
       let p : Paths × ℕ = ph.0 in
@@ -39,12 +39,12 @@ module _ {C P : Type 0} (k : Sense C P) (s : Plan) (text : List ℕ) (place : �
       let a : Actions × ℕ = ac.0 in
       let pt = onward_ok (ruled h p.0 t.0 c.0 a) (r, end) (ports_for s p.0.patterns p.0.places) ac.2 in
       let same = ok_same pt.2 in
-      subst (λ (x : Ruling C × ℕ). RuleAt k s text place x.0 x.1) same (record {
+      subst (λ (x : Ruling C × ℕ). RuleAt k s text (start_of text place) x.0 x.1) same (record {
         after_head = h.end;
         after_paths = p.1;
         after_target = t.1;
         after_conditions = c.1;
-        head = head_written s text place h hd.1;
+        head = head_written s text (start_of text place) h hd.1;
         paths = paths_written text s.nodes h.end p.0 p.1 ph.1;
         target = target_written text s.classes p.1 t.0 t.1 tg.1;
         conditions = subst (λ (y : C × ℕ). Rattle.rules.specs.Grammar.ConditionsAt k text t.1 y.0 y.1) cb.2 (conditions_written k text t.1 cb.0.0 cb.0.1 cb.1);
@@ -53,7 +53,7 @@ module _ {C P : Type 0} (k : Sense C P) (s : Plan) (text : List ℕ) (place : �
       })
 
   -- what is written is read
-  rule_read : (r : Ruling C) (end : ℕ) → RuleAt k s text place r end → read_rule k s text place ≡ Ok (r, end)
+  rule_read : (r : Ruling C) (end : ℕ) → RuleAt k s text (start_of text place) r end → read_rule k s text place ≡ Ok (r, end)
   rule_read r end w =
       let h : Head = record { id = r.id; place = r.place; user = r.user; rank = r.rank; end = w.after_head } in
       let pr = paths_read text s.nodes w.after_head w.paths in
@@ -61,7 +61,7 @@ module _ {C P : Type 0} (k : Sense C P) (s : Plan) (text : List ℕ) (place : �
       let t : Targets = Rattle.rules.proofs.TargetLaw.mk Rattle.sections.specs.declared.targets.Stage.TheVariants.Done r.scope r.classes in
       let cr = conditions_read k text w.after_target w.conditions in
       let a : Actions = Rattle.rules.proofs.ActionLaw.mk Rattle.sections.specs.declared.action.Stage.TheVariants.Done r.action r.semicolon in
-      ap (onward (after_head_of k s text)) (head_read s text place w.head)
+      ap (onward (after_head_of k s text)) (head_read s text (start_of text place) w.head)
       ∙ ap (onward (after_paths_of k s text h)) pr.read
       ∙ ap (onward (after_target_of k s text h p)) (target_read text s.classes w.after_paths w.target)
       ∙ ap (onward (after_condition s text h p t)) (ap condition_read cr.read ∙ ap (λ c. Ok (c, w.after_conditions)) cr.condition)

@@ -20,7 +20,7 @@ use Rattle.sections.specs.declared.action.Action.{Action}
 use Rattle.sections.specs.declared.action.Action.TheVariants.{Permit, Deny, Priority}
 use Rattle.words.specs.declared.signs.Sign.{Sign}
 use Rattle.words.specs.declared.signs.Sign.TheVariants as sign
-use Rattle.rules.specs.Rules.{Ruling, ports_for}
+use Rattle.rules.specs.Rules.{Ruling, ports_for, start_of}
 use Rattle.words.specs.Writing.{name, value, sign as signToken, Stands, Next}
 
 -- a certain sign, wherever it starts
@@ -153,4 +153,4 @@ pub record RuleAt {C P : Type 0} (k : Sense C P) (s : Plan) (text : List ℕ) (a
 
 -- an answer of the reader is right: a rule is read, up to a place, exactly when the text is a way to write it up to there
 abbrev pub ReadAsWritten : {C P : Type 0} → Sense C P → Plan → List ℕ → ℕ → Result (Ruling C × ℕ) Refusal → Type 0
-ReadAsWritten {C} k s text place answer = (r : Ruling C) (end : ℕ) → (answer ≡ Ok (r, end)) ↔ RuleAt k s text place r end
+ReadAsWritten {C} k s text place answer = (r : Ruling C) (end : ℕ) → (answer ≡ Ok (r, end)) ↔ RuleAt k s text (start_of text place) r end

@@ -1,5 +1,5 @@
 -- A rule and how it is read: head, paths, target, conditions and action, and then the search for its paths.
-use Rattle.std.specs.Prelude.{ℕ, ◌+◌, List, [], ◌∷◌, map, length, Ok, Err, codes, Result, bit_or, slice_index}
+use Rattle.std.specs.Prelude.{ℕ, ◌+◌, cond, List, [], ◌∷◌, map, length, Ok, Err, codes, Result, bit_or, nat_lt, slice_index}
 use Rattle.fixed.specs.Items.{items}
 use Rattle.fixed.specs.Names.{spelling}
 use Rattle.kind.specs.Sense.{Sense}
@@ -136,6 +136,10 @@ after_paths_of k s text h p = onward (after_target_of k s text h p.0) (read_sect
 abbrev pub after_head_of : {C P : Type 0} → Sense C P → Plan → List ℕ → Head → Result (Ruling C × ℕ) Refusal
 after_head_of k s text h = onward (after_paths_of k s text h) (read_section (path_section s.nodes) text no_paths h.end)
 
--- the rule that is read on a site from a place on, with the place after its semicolon, or the refusal; a place past the text counts as its end
+-- where reading starts: a place past the text counts as its end
+abbrev pub start_of : List ℕ → ℕ → ℕ
+start_of text place = cond (nat_lt place (length text)) place (length text)
+
+-- the rule that is read on a site from a place on, with the place after its semicolon, or the refusal
 abbrev pub read_rule : {C P : Type 0} → Sense C P → Plan → List ℕ → ℕ → Result (Ruling C × ℕ) Refusal
-read_rule k s text place = onward (after_head_of k s text) (head_from s text place)
+read_rule k s text place = onward (after_head_of k s text) (head_from s text (start_of text place))

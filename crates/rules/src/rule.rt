@@ -98,7 +98,12 @@ fn read_parts<K: Kind + Drop>(
 ) -> Result<(Rule<K>, usize), Refusal>
     ensures { viewed rule_of result ≡ read_rule K.Kind.sense (plan site.now) text.now place }
 {
-    let head = read_head(site, text, place)?;
+    let start = if place < text.len() {
+        place
+    } else {
+        text.len()
+    };
+    let head = read_head(site, text, start)?;
     let paths = read_paths(site, text, head.end)?;
     let target = read_target(site, text, paths.1)?;
     let condition = read_conditions(text, target.1)?;

@@ -5,7 +5,7 @@ use Rattle.site.specs.declared.refusals.Cause.TheVariants.{TextEnds}
 use Rattle.site.specs.Refusals.{refuse}
 use Rattle.words.specs.declared.words.Word.{Word}
 use Rattle.words.specs.declared.words.Found.{Found}
-use Rattle.words.specs.Words.{bytes_of, due_from}
+use Rattle.words.specs.Words.{bytes_of, word_from, value_from}
 
 -- goes on with what was read, or passes the refusal on
 abbrev pub onward : {A B : Type 0} → (A → Result B Refusal) → Result A Refusal → Result B Refusal
@@ -24,7 +24,7 @@ met M text s f = onward (λ t. Ok (t, f.to)) (M.meet s f.word (bytes_of text f) 
 
 -- one word on
 abbrev pub turn : {S : Type 0} → Section S → List ℕ → S → ℕ → Result (S × ℕ) Refusal
-turn M text s at = onward (met M text s) (due_from (M.due s) text at)
+turn M text s at = onward (met M text s) (cond (M.due s) (value_from text at) (word_from text at))
 
 -- word after word until the section is done; each takes a byte at least, so as many as there are bytes suffice
 abbrev pub turns : {S : Type 0} → Section S → ℕ → List ℕ → S → ℕ → Result (S × ℕ) Refusal

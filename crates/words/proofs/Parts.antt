@@ -17,6 +17,10 @@ module _ (text : List ℕ) (at start : ℕ) (s : start ≡ min at (length text))
   pub length_from : length (take (length text - start) (drop start text)) ≡ length text - at
   length_from = ap length rest_from ∙ length-drop at text
 
+-- a place in the text is where its part begins
+pub start_inside : (at : ℕ) (text : List ℕ) → at ≤ length text → min at (length text) ≡ at
+start_inside at text h = omega arith
+
 -- the part between two places
 module _ (text : List ℕ) (from to start end : ℕ) (e : end ≡ min to (length text)) (s : start ≡ min from end) where
   shorter : from < end → take (end - from) (drop from text) ≡ take (to - from) (drop from text)

@@ -1,8 +1,8 @@
 // The words of a rule's text: names, values and signs, with blanks free between them.
-ghost use Rattle.std.specs.Prelude.{◌≡◌, ◌≤◌, true, false, length, IfOk, MatchResult};
+ghost use Rattle.std.specs.Prelude.{◌≡◌, ◌≤◌, true, false, length, drop, IfOk, MatchResult};
 ghost use Rattle.std.specs.List.{prefix_len};
 ghost use Rattle.std.specs.Str.{bytes_eq};
-ghost use Rattle.words.specs.Words.{value_byte, bytes_of, word_at, value_at, word_from, value_from, Inside};
+ghost use Rattle.words.specs.Words.{value_byte, bytes_of, word_at, value_at, moved, word_from, value_from, Inside};
 ghost use Rattle.words.specs.Writing.{ReadAsItStands};
 
 use crate::blanks::blank_run;
@@ -119,6 +119,7 @@ fn read_value(part: &[u8]) -> Result<Found, Refusal>
 // The text from its middle is handed on as a part, and places count from the text's start.
 pub fn word_from(text: &[u8], at: usize) -> Result<Found, Refusal>
     ensures is { result ≡ word_from text.now at }
+    ensures in_text { at ≤ length text.now → result ≡ moved at (word_at (drop at text.now)) }
     ensures law { ReadAsItStands false text.now at result }
     ensures within { IfOk result (λ f. Inside (length text.now) f × (at ≤ f.from)) }
 {
@@ -139,6 +140,7 @@ pub fn word_from(text: &[u8], at: usize) -> Result<Found, Refusal>
 // The value at a place or after it.
 pub fn value_from(text: &[u8], at: usize) -> Result<Found, Refusal>
     ensures is { result ≡ value_from text.now at }
+    ensures in_text { at ≤ length text.now → result ≡ moved at (value_at (drop at text.now)) }
     ensures law { ReadAsItStands true text.now at result }
     ensures within { IfOk result (λ f. Inside (length text.now) f × (at ≤ f.from)) }
 {

@@ -1,7 +1,7 @@
 // What can be asked of a book; no question alters it.
 ghost use Rattle.std.specs.Prelude.{List, IfOk};
 ghost use Rattle.book.specs.Books.{map_of, Led, Takes};
-ghost use Rattle.book.specs.Runs.{Step, report, decide, route, Reported, Decided, Routed};
+ghost use Rattle.book.specs.Runs.{Step, report, decide, route, Reported, ReportedByPaths, Decided, DecidedByPaths, Routed};
 
 use super::Book;
 use crate::routing;
@@ -16,6 +16,7 @@ impl<'m, 'a, K: Kind + Drop> Book<'m, 'a, K> {
     pub fn report(&self, list: &mut [Entry<K::Point>]) -> Result<Totals, Refusal>
         ensures takes { Takes K.Kind.sense self.now self.now (report list.old result list.new) }
         ensures law { IfOk result (λ t. (h : List (Step K.Point)) → Led K.Kind.sense h self.now → Reported (map_of self.now) K.Kind.sense h list.new t.pairs t.unsettled) }
+        ensures by_paths { IfOk result (λ t. (h : List (Step K.Point)) → Led K.Kind.sense h self.now → ReportedByPaths (map_of self.now) K.Kind.sense h list.new t.pairs) }
     {
         let n = self.used();
         list_pairs(self.site, &self.slots[0..n], list)
@@ -25,6 +26,7 @@ impl<'m, 'a, K: Kind + Drop> Book<'m, 'a, K> {
     pub fn decide(&self, port: Port, class: u8, point: &K::Point) -> Result<Decision, Refusal>
         ensures takes { Takes K.Kind.sense self.now self.now (decide port class point.now result) }
         ensures law { IfOk result (λ d. (h : List (Step K.Point)) → Led K.Kind.sense h self.now → Decided (map_of self.now) K.Kind.sense h port class point.now d) }
+        ensures by_paths { IfOk result (λ d. (h : List (Step K.Point)) → Led K.Kind.sense h self.now → DecidedByPaths (map_of self.now) K.Kind.sense h port class point.now d) }
     {
         if !self.site.is_port(port.link, port.node) {
             return Err(Refusal {

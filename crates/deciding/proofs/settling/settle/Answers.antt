@@ -2,7 +2,7 @@ use Rattle.std.proofs.Common.{◌≡◌, ◌+◌, map, take, sym, ap, ◌∙◌,
 use Rattle.std.proofs.lemmas.List.{take_all}
 use Rattle.site.specs.Sites.{plan}
 use Rattle.rules.specs.Rules.{rule_of}
-use Rattle.deciding.specs.Deciding.{Held, Decides}
+use Rattle.deciding.specs.Deciding.{Decides}
 use Rattle.deciding.specs.Tallies.{counted}
 use Rattle.deciding.proofs.Weighing.{Tallied, tallied_none, counts_more, weighed}
 use Rattle.deciding.proofs.settling.settle.Goals as goal
@@ -23,6 +23,6 @@ pub returns : goal.returns
 returns g c =
     let s = plan c.args.site.now in
     let k = g.K.Kind.sense in
-    subst (λ z. Decides s k (Held s) (map rule_of c.args.rules.now) c.args.port c.args.class c.args.point.now z) (sym c.verdict.ensures)
+    subst (λ z. Decides s k (map rule_of c.args.rules.now) c.args.port c.args.class c.args.point.now z) (sym c.verdict.ensures)
     (weighed s k c.args.port c.args.class c.args.point.now (map rule_of c.args.rules.now) c.loop-rule.tally
     (subst (λ z. Tallied s k c.args.port c.args.class c.args.point.now (map rule_of z) c.loop-rule.tally) (take_all _ _ c.loop-rule-test.false) c.loop-rule.invariant))
