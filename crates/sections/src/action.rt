@@ -1,5 +1,5 @@
 // The last section of a rule, its action, and the semicolon after it.
-ghost use Rattle.std.specs.Prelude.{◌≡◌, ◌≤◌, length, Ok, Err, MatchResult};
+ghost use Rattle.std.specs.Prelude.{◌≡◌, ◌≤◌, length, IfOk, Ok, Err, MatchResult};
 ghost use Rattle.std.specs.List.{prefix_len};
 ghost use Rattle.kind.specs.Digits.{digit, decimal};
 ghost use Rattle.sections.specs.Actions.{priority_of, acting, no_action, meet_action, action_done, action_section};
@@ -151,7 +151,8 @@ impl Acting {
 
 // The action and the semicolon from a place on, and the place after them.
 pub fn read_action(text: &[u8], at: usize) -> Result<(Acting, usize), Refusal>
-    ensures { viewed acting result ≡ read_section action_section text.now no_action at }
+    ensures is { viewed acting result ≡ read_section action_section text.now no_action at }
+    ensures within { at ≤ length text.now → IfOk result (λ p. p.1 ≤ length text.now) }
 {
     let mut acting = Acting::new();
     let mut at = at;

@@ -1,8 +1,8 @@
 // The third section of a rule: its condition, taken on comparison by comparison.
-ghost use Rattle.std.specs.Prelude.{◌≡◌, ◌≤◌, length, IfOk, Ok, Err, MatchResult};
+ghost use Rattle.std.specs.Prelude.{◌≡◌, ◌≤◌, cond, length, IfOk, Ok, Err, MatchResult};
 ghost use Rattle.sections.specs.Conditions.{objected, placed, asked, begun, offered, conditions_of, no_conditions, meet_conditions, conditions_done, value_due, condition_section, condition_read};
 ghost use Rattle.sections.specs.Meeting.{read_section};
-ghost use Rattle.words.specs.Words.{Inside, due_from};
+ghost use Rattle.words.specs.Words.{Inside, word_from, value_from};
 
 use fixed::is_name;
 use kind::{Claim, Declined, Kind, Sign as Relation};
@@ -209,7 +209,7 @@ impl<'t, K: Kind> Conditioning<'t, K> {
 
 // The value, or else the name or sign, at a place or after it.
 fn next_from(text: &[u8], at: usize, value_due: bool) -> Result<Found, Refusal>
-    ensures is { result ≡ due_from value_due text.now at }
+    ensures is { result ≡ cond value_due (value_from text.now at) (word_from text.now at) }
     ensures within { IfOk result (λ f. Inside (length text.now) f × (at ≤ f.from)) }
 {
     if value_due {
@@ -221,7 +221,8 @@ fn next_from(text: &[u8], at: usize, value_due: bool) -> Result<Found, Refusal>
 
 // The section of conditions from a place on, and the place after it.
 pub fn read_conditions<K: Kind + Drop>(text: &[u8], at: usize) -> Result<(K, usize), Refusal>
-    ensures { result ≡ condition_read (read_section (condition_section K.Kind.sense.taken) text.now (no_conditions K.Kind.sense.everywhere) at) }
+    ensures is { result ≡ condition_read (read_section (condition_section K.Kind.sense.taken) text.now (no_conditions K.Kind.sense.everywhere) at) }
+    ensures within { at ≤ length text.now → IfOk result (λ p. p.1 ≤ length text.now) }
 {
     let mut conditioning = Conditioning {
         stage: Stage::Open,

@@ -1,5 +1,5 @@
 // The head of a rule: its id, and the user whose rule it is.
-ghost use Rattle.std.specs.Prelude.{◌≡◌, Ok, Err, MatchResult};
+ghost use Rattle.std.specs.Prelude.{◌≡◌, ◌≤◌, length, IfOk, Ok, Err, MatchResult};
 ghost use Rattle.site.specs.Sites.{plan};
 ghost use Rattle.sections.specs.Heads.{name_of, name_from, head_of, head_from};
 
@@ -26,7 +26,8 @@ pub struct Head {
 
 // The name at a place or after it.
 fn read_name(text: &[u8], at: usize) -> Result<Named, Refusal>
-    ensures { MatchResult result (λ n. name_from text.now at ≡ Ok (name_of n)) (λ e. name_from text.now at ≡ Err e) }
+    ensures is { MatchResult result (λ n. name_from text.now at ≡ Ok (name_of n)) (λ e. name_from text.now at ≡ Err e) }
+    ensures within { IfOk result (λ n. n.to ≤ length text.now) }
 {
     let found = word_from(text, at)?;
     match found.word {
@@ -50,7 +51,8 @@ fn read_name(text: &[u8], at: usize) -> Result<Named, Refusal>
 
 // The id and the user from a place on.
 pub fn read_head(site: &Site, text: &[u8], at: usize) -> Result<Head, Refusal>
-    ensures { MatchResult result (λ h. head_from (plan site.now) text.now at ≡ Ok (head_of h)) (λ e. head_from (plan site.now) text.now at ≡ Err e) }
+    ensures is { MatchResult result (λ h. head_from (plan site.now) text.now at ≡ Ok (head_of h)) (λ e. head_from (plan site.now) text.now at ≡ Err e) }
+    ensures within { IfOk result (λ h. h.end ≤ length text.now) }
 {
     let id = read_name(text, at)?;
     let by = read_name(text, id.to)?;

@@ -1,5 +1,5 @@
 // The first section of a rule: its paths, as up to four patterns.
-ghost use Rattle.std.specs.Prelude.{◌≡◌, map, Ok, Err, MatchResult};
+ghost use Rattle.std.specs.Prelude.{◌≡◌, ◌≤◌, map, length, IfOk, Ok, Err, MatchResult};
 ghost use Rattle.fixed.specs.Items.{items};
 ghost use Rattle.paths.specs.Patterns.{items_of};
 ghost use Rattle.site.specs.Sites.{plan};
@@ -163,7 +163,8 @@ impl Routes {
 
 // The section of paths from a place on, and the place after it.
 pub fn read_paths(site: &Site, text: &[u8], at: usize) -> Result<(Routes, usize), Refusal>
-    ensures { viewed paths_of result ≡ read_section (path_section (plan site.now).nodes) text.now no_paths at }
+    ensures is { viewed paths_of result ≡ read_section (path_section (plan site.now).nodes) text.now no_paths at }
+    ensures within { at ≤ length text.now → IfOk result (λ p. p.1 ≤ length text.now) }
 {
     let mut routes = Routes::new();
     let mut at = at;

@@ -1,5 +1,5 @@
 // The second section of a rule: its target, the traffic classes that it speaks of.
-ghost use Rattle.std.specs.Prelude.{◌≡◌, [], Ok, Err, MatchResult};
+ghost use Rattle.std.specs.Prelude.{◌≡◌, ◌≤◌, [], length, IfOk, Ok, Err, MatchResult};
 ghost use Rattle.fixed.specs.Items.{items};
 ghost use Rattle.site.specs.Sites.{plan};
 ghost use Rattle.sections.specs.Meeting.{viewed, read_section};
@@ -171,7 +171,8 @@ impl Targeting {
 
 // The section of the target from a place on, and the place after it.
 pub fn read_target(site: &Site, text: &[u8], at: usize) -> Result<(Targeting, usize), Refusal>
-    ensures { viewed target_of result ≡ read_section (target_section (plan site.now).classes) text.now no_target at }
+    ensures is { viewed target_of result ≡ read_section (target_section (plan site.now).classes) text.now no_target at }
+    ensures within { at ≤ length text.now → IfOk result (λ p. p.1 ≤ length text.now) }
 {
     let mut targeting = Targeting::new();
     let mut at = at;

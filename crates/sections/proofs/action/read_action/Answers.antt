@@ -1,23 +1,32 @@
-use Rattle.std.proofs.Common.{sym, arith}
+use Rattle.std.proofs.Common.{◌≤◌, length, sym, arith}
 use Rattle.std.proofs.lemmas.Result.{err_from_is_err_and}
 use Rattle.sections.specs.Actions.{acting}
-use Rattle.sections.proofs.Folds.{one_more, unread, unmet, ended, passed_on}
+use Rattle.sections.proofs.Folds.{one_more, unread, unmet, ended, passed_on, none_past}
 use Rattle.sections.proofs.action.read_action.Goals as goal
 
 pub returns-in_err-found : goal.returns-in_err-found
 returns-in_err-found c =
     let p = err_from_is_err_and c.from_residual.result c.from_residual.ensures.1 in
-    passed_on acting _ _ _ p.1 p.2 (unread c.loop-acting.invariant _ (sym c.loop-acting-test.ensures) (sym c.in_err-found.ensures.is))
+    record {
+      is = passed_on acting _ _ _ p.1 p.2 (unread c.loop-acting.invariant.read _ (sym c.loop-acting-test.ensures) (sym c.in_err-found.ensures.is));
+      within = λ _. none_past (λ q. q.1 ≤ length c.args.text.now) _ _ p.1;
+    }
 
 pub returns-in_err-meet : goal.returns-in_err-meet
 returns-in_err-meet c =
     let p = err_from_is_err_and c.from_residual-in_err-meet.result c.from_residual-in_err-meet.ensures.1 in
-    passed_on acting _ _ _ p.1 p.2 (unmet c.loop-acting.invariant c.in_ok-found.found _ (sym c.loop-acting-test.ensures) (sym c.in_ok-found.ensures.is) c.bytes.ensures c.in_err-meet.ensures)
+    record {
+      is = passed_on acting _ _ _ p.1 p.2 (unmet c.loop-acting.invariant.read c.in_ok-found.found _ (sym c.loop-acting-test.ensures) (sym c.in_ok-found.ensures.is) c.bytes.ensures c.in_err-meet.ensures);
+      within = λ _. none_past (λ q. q.1 ≤ length c.args.text.now) _ _ p.1;
+    }
 
 pub loop-acting-preserved : goal.loop-acting-preserved
 loop-acting-preserved c =
     let w = c.in_ok-found.ensures.within in
-    one_more c.loop-acting.invariant c.in_ok-found.found (acting c.meet.new.self) (sym c.loop-acting-test.ensures) (sym c.in_ok-found.ensures.is) c.bytes.ensures c.in_ok-meet.ensures (omega arith) w.0.1
+    record {
+      read = one_more c.loop-acting.invariant.read c.in_ok-found.found (acting c.meet.new.self) (sym c.loop-acting-test.ensures) (sym c.in_ok-found.ensures.is) c.bytes.ensures c.in_ok-meet.ensures (omega arith) w.0.1;
+      inside = λ _. w.0.1;
+    }
 
 pub returns : goal.returns
-returns c = ended c.loop-acting.invariant (sym c.loop-acting-test.ensures)
+returns c = record { is = ended c.loop-acting.invariant.read (sym c.loop-acting-test.ensures); within = c.loop-acting.invariant.inside }
