@@ -13,6 +13,7 @@ import re
 
 # names that would fall together with another one, and what they are called instead
 APART = {
+    "after-head": "after_head",
     "allLinked": "every_node_linked",
     "afterId": "after_id_of",
     "afterPaths": "after_paths_of",
@@ -49,10 +50,10 @@ def read(path):
 def turned(name):
     if name in APART:
         return APART[name]
-    if name[0].isupper() and "_" in name:
+    if name[0].isupper() and "_" in name and "-" in name:
         return name
     if name[0].isupper():
-        return "".join(p[:1].upper() + p[1:] for p in name.split("-"))
+        return "".join(p[:1].upper() + p[1:] for p in re.split("[-_]", name))
     name = re.sub(r"(?<=[a-z0-9])([A-Z])(?=[a-z0-9_-]|$)", lambda m: "_" + m.group(1).lower(), name)
     parts = name.split("-")
     if len(parts) == 2 and parts[0] in HEADS and parts[1] in HEADS | {"items"}:

@@ -1,5 +1,5 @@
 -- Sets of addresses, and the address given for two sets.
-use Rattle.std.specs.Prelude.{◌≡◌, ℕ, ◌+◌, min, Bool, true, false, cond, List, ◌++◌, take, set, replicate, Some, None, codes, Option, nat_lt, slice_set}
+use Rattle.std.specs.Prelude.{◌≡◌, ℕ, ◌+◌, min, Bool, true, false, cond, List, ◌++◌, take, replicate, Some, None, codes, Option, nat_lt, slice_set}
 use Rattle.std.specs.Str.{bytes_eq}
 use Rattle.address.specs.declared.address.Address.{Address}
 use Rattle.address.specs.declared.block.Block.{Block}

@@ -1,9 +1,8 @@
 -- From the tally of a search to its answer.
-use Rattle.std.proofs.Common.{◌≡◌, ℕ, ◌<◌, ◌≤◌, Bool, true, false, eqb, ltb, List, length, Ok, Err, Result, sym, ap, ◌∙◌, arith}
+use Rattle.std.proofs.Common.{◌≡◌, ℕ, ◌<◌, ◌≤◌, true, false, eqb, ltb, List, length, Ok, Err, sym, ap, ◌∙◌, arith}
 use lib.Bits.{bit_or}
 use Rattle.std.proofs.lemmas.Bool.{lt-ltb, le-ltb, cond-true, cond-false}
 use Rattle.site.specs.declared.parts.Link.{Link}
-use Rattle.paths.specs.declared.finding.Fault.{Fault}
 use Rattle.paths.specs.declared.finding.Fault.TheVariants.{TooMany, NoPath}
 use Rattle.paths.specs.declared.pattern.Item.{Item}
 use Rattle.paths.specs.declared.ports.PortSet.{PortSet}

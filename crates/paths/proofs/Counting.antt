@@ -4,7 +4,6 @@ use lib.Bits.{bit_or}
 use Rattle.std.proofs.lemmas.List.{set-set, set-get_or, drop_more, drop_all, length-append, length-map}
 use Rattle.std.proofs.lemmas.Bool.{true≢false, ne_eqb}
 use Rattle.paths.specs.declared.pattern.Item.{Item}
-use Rattle.paths.specs.declared.ports.PortSet.{PortSet}
 use Rattle.paths.specs.declared.roads.Step.{Step}
 use Rattle.paths.specs.declared.tally.Tally.{Tally}
 use Rattle.paths.specs.declared.tally.OverBudget.{OverBudget}

@@ -5,7 +5,7 @@ use Rattle.std.proofs.lemmas.Bool.{false≢true, eq-eqb, ne_eqb, eqb-true, eqb-f
 use Rattle.paths.specs.declared.pattern.Item.{Item}
 use Rattle.paths.specs.declared.pattern.Item.TheVariants.{Node, Star}
 use Rattle.paths.specs.Live.{is_star, goes, opens, moves, start, after, live_after}
-use Rattle.paths.specs.Tracking.{Goes_on, Tracked}
+use Rattle.paths.specs.Tracking.{GoesOn, Tracked}
 use Rattle.paths.specs.Patterns.{Split, Block, Blocks, starred}
 use Rattle.paths.specs.Digits.{has}
 use Rattle.paths.proofs.Bits.{has_pow, has_none, some_in}
@@ -241,7 +241,7 @@ longer (Node m ∷ is) ns s b =
 longer (Star ∷ is) ns s b =
     (0, plain is, record { front = ns ++ 0 ∷ []; back = plain is; whole = sym (append_assoc ns (0 ∷ []) (plain is)); first = tt; rest = plain_stands is })
 
-pub completed : (items : List Item) (n : ℕ) (ns : List ℕ) → Onward items (n ∷ ns) → Goes_on items (n ∷ ns)
+pub completed : (items : List Item) (n : ℕ) (ns : List ℕ) → Onward items (n ∷ ns) → GoesOn items (n ∷ ns)
 completed items n ns o =
     ⊎_elim
     (λ s. let l = longer items ((n ∷ ns) ++ o.more) s o.stands in

@@ -1,11 +1,10 @@
 -- The union over some patterns, pattern by pattern.
-use Rattle.std.proofs.Common.{◌≡◌, ℕ, ◌+◌, ◌<◌, ◌≤◌, Bool, true, false, ◌⊎◌, List, [], ◌∷◌, ◌++◌, length, get_or, drop, Ok, Err, Decides, Result, sym, refl, ap, ◌∙◌, subst, inl, inr, ⊎_elim, arith}
+use Rattle.std.proofs.Common.{◌≡◌, ℕ, ◌+◌, ◌<◌, ◌≤◌, true, ◌⊎◌, List, [], ◌∷◌, ◌++◌, length, get_or, drop, Ok, Err, Decides, Result, sym, refl, ap, ◌∙◌, subst, inl, inr, ⊎_elim, arith}
 use lib.Bits.{bit_or}
 use Rattle.std.proofs.lemmas.List.{drop_more, drop_all}
 use Rattle.std.proofs.lemmas.Bool.{false≢true, and_parts, and_from, or_cases, or_left, or_right}
 use Rattle.site.specs.declared.parts.Link.{Link}
 use Rattle.paths.specs.declared.finding.Fault.{Fault}
-use Rattle.paths.specs.declared.finding.Fault.TheVariants.{TooMany, NoPath}
 use Rattle.paths.specs.declared.pattern.Pattern.{Pattern}
 use Rattle.paths.specs.declared.ports.Port.{Port}
 use Rattle.paths.specs.declared.ports.PortSet.{PortSet}

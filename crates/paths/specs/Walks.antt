@@ -1,5 +1,5 @@
 -- The partial paths of a pattern as a list: a walk is a path with the links that it takes.
-use Rattle.std.specs.Prelude.{◌≡◌, ℕ, zero, suc, ◌+◌, ◌*◌, ◌^◌, ◌<◌, ◌≤◌, Bool, true, false, cond, List, [], ◌∷◌, ◌++◌, map, length, get_or, set, replicate, ◌==◌, bit_or, slice_index_or, slice_set}
+use Rattle.std.specs.Prelude.{◌≡◌, ℕ, zero, suc, ◌+◌, ◌*◌, ◌^◌, ◌<◌, ◌≤◌, Bool, true, false, cond, List, [], ◌∷◌, ◌++◌, map, length, get_or, replicate, ◌==◌, bit_or, slice_index_or, slice_set}
 use Rattle.paths.specs.declared.pattern.Item.{Item}
 use Rattle.paths.specs.declared.roads.Step.{Step}
 use Rattle.paths.specs.declared.tally.Tally.{Tally}

@@ -1,17 +1,15 @@
 -- A field is declared exactly when it can be.
-use Rattle.std.proofs.Common.{◌≡◌, ℕ, suc, ◌<◌, Bool, true, false, cond, not, ◌&&◌, eqb, ltb, List, [], ◌∷◌, ◌++◌, length, get_or, drop, is_some, Some, None, Ok, Err, Option, Result, sym, refl, ap, ◌∙◌, subst, arith}
+use Rattle.std.proofs.Common.{◌≡◌, ℕ, ◌<◌, true, false, eqb, ltb, List, [], ◌∷◌, ◌++◌, length, get_or, is_some, Some, None, Ok, Err, Option, Result, sym, refl, ap, ◌∙◌, subst, arith}
 use Rattle.std.proofs.lemmas.Bool.{lt-ltb, ltb-true, eqb-true, ne_eqb, eqb-false, and_from, and_parts, not-true, not_from_false, cond_both}
 use Rattle.fixed.specs.declared.roster.NameFault.{NameFault}
 use Rattle.fixed.specs.Rosters.{enrol}
-use Rattle.fixed.specs.Spelling.{is_name}
-use Rattle.fixed.proofs.Enrolling.{Enrolled, enrolled, enrols, known_absent, absent_known}
+use Rattle.fixed.proofs.Enrolling.{enrolled, enrols, known_absent, absent_known}
 use Rattle.site.specs.declared.parts.Reading.{Reading}
 use Rattle.site.specs.declared.parts.Reading.TheVariants.{Implied, Spoken}
 use Rattle.site.specs.declared.refusals.Cause.{Cause}
 use Rattle.site.specs.Links.{joined}
 use Rattle.site.specs.Plans.{Plan}
-use Rattle.site.specs.Fields.{Field, field, with_nodes, with_classes, with_users, with_link, with_reading, adding, seating, setting, ranking, fitting, enrol_user, reading_of, declare, declare_node, declare_link, declare_class, declare_user, declare_reading, code, New, Adds, node, link, class, user, reading}
-use Rattle.site.specs.Refusals.{raised}
+use Rattle.site.specs.Fields.{Field, field, with_nodes, with_classes, with_users, with_link, with_reading, adding, seating, setting, ranking, fitting, reading_of, declare, declare_node, declare_link, declare_class, declare_user, declare_reading, code, New, Adds, node, link, class, user, reading}
 use Rattle.site.proofs.Seating.{user_added}
 
 enrols_new : (room : ℕ) (xs : List (List ℕ)) (n : List ℕ) → New n xs → length xs < room → enrol room xs n ≡ Ok (xs ++ n ∷ [])

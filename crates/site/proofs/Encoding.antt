@@ -1,10 +1,9 @@
 -- The bytes of a field, taken apart and put together again.
-use Rattle.std.proofs.Common.{◌≡◌, ℕ, ◌+◌, ◌*◌, ◌/◌, ◌%◌, ◌<◌, ◌≤◌, true, List, [], ◌∷◌, ◌++◌, length, get_or, take, drop, sym, refl, ap, ◌∙◌, arith, length-append, length-drop, length-take}
+use Rattle.std.proofs.Common.{◌≡◌, ℕ, ◌+◌, ◌/◌, ◌%◌, ◌≤◌, true, List, ◌∷◌, ◌++◌, length, get_or, take, drop, sym, refl, ap, ◌∙◌, arith, length-append, length-drop}
 use Rattle.std.proofs.lemmas.List.{drop_more, drop-drop, take-append-drop, take_at, drop_at, length-take-le}
 use Rattle.fixed.specs.Spelling.{is_name}
 use Rattle.std.proofs.lemmas.Bool.{and_parts, leb-true}
 use Rattle.site.specs.Plans.{Plan}
-use Rattle.site.specs.declared.parts.Reading.TheVariants.{Implied, Spoken}
 use Rattle.site.specs.Fields.{Field, field, Adds, node, link, class, user, reading}
 use Rattle.site.specs.Maps.{body_length, span, front, encoded}
 

@@ -1,10 +1,10 @@
 -- From the fields of a map to the site that is read.
-use Rattle.std.proofs.Common.{◌≡◌, ℕ, true, false, List, length, IfOk, Ok, Err, Result, sym, refl, ap, ◌∙◌}
+use Rattle.std.proofs.Common.{◌≡◌, ℕ, true, false, List, length, IfOk, Ok, Err, Result, sym, ap, ◌∙◌}
 use Rattle.site.specs.declared.refusals.Cause.TheVariants.{Unsealable}
 use Rattle.site.specs.declared.refusals.Refusal.{Refusal}
 use Rattle.site.specs.declared.sealed.Site.{Site}
 use Rattle.site.specs.Plans.{Plan}
-use Rattle.site.specs.Maps.{blank, fields, onward, read_map, seal, sealable, Says}
+use Rattle.site.specs.Maps.{blank, fields, onward, read_map, seal, sealable}
 use Rattle.site.specs.Promises.{Sound}
 use Rattle.site.specs.Refusals.{refuse}
 use Rattle.site.specs.Sites.{plan, told}

@@ -1,15 +1,15 @@
 -- A field is refused for the smallest cause that applies to it.
-use Rattle.std.proofs.Common.{◌≡◌, ℕ, zero, suc, ◌+◌, ◌<◌, ◌≤◌, Bool, true, false, cond, eqb, ltb, ◌⊎◌, List, [], ◌∷◌, ◌++◌, length, get_or, drop, is_some, Some, None, Ok, Err, Option, Result, sym, refl, ap, ◌∙◌, subst, inl, inr, ⊎_elim, arith}
+use Rattle.std.proofs.Common.{◌≡◌, ℕ, ◌<◌, ◌≤◌, true, false, eqb, ltb, ◌⊎◌, List, length, get_or, drop, is_some, Some, None, Ok, Err, Option, Result, refl, ap, ◌∙◌, inl, inr, ⊎_elim, arith}
 use Rattle.std.proofs.lemmas.Bool.{ltb-true, ltb-false, eqb-true, eqb-false, cases_eq, both_ways, cond_both}
 use Rattle.fixed.specs.declared.roster.NameFault.{NameFault}
 use Rattle.fixed.specs.Rosters.{known, enrol}
 use Rattle.fixed.specs.Spelling.{is_name}
 use Rattle.site.specs.declared.parts.Reading.{Reading}
 use Rattle.site.specs.declared.refusals.Cause.{Cause}
-use Rattle.site.specs.declared.refusals.Cause.TheVariants.{CutShort, UnknownTag, NotAName, DeclaredBefore, TableFull, BadLink, BadRankOrReading}
+use Rattle.site.specs.declared.refusals.Cause.TheVariants.{UnknownTag}
 use Rattle.site.specs.declared.refusals.Refusal.{Refusal}
 use Rattle.site.specs.Plans.{Plan}
-use Rattle.site.specs.Fields.{Field, field, adding, seating, setting, ranking, fitting, reading_of, declare, declare_node, declare_link, declare_class, declare_user, declare_reading, with_nodes, with_classes, with_link}
+use Rattle.site.specs.Fields.{Field, adding, seating, setting, ranking, fitting, reading_of, declare, declare_link, declare_reading, with_nodes, with_classes}
 use Rattle.site.specs.Maps.{span, front, placed, one_field}
 use Rattle.site.specs.Faults.{DeclaresName, a_node, a_class, a_user, Applies, ends_in_head, ends_in_body, no_such_tag, misspelled, named_before, no_room_for_name, no_room_for_link, unfit_link, rank_zero, second_reading, no_reading, Told}
 use Rattle.site.specs.Refusals.{number, raised}

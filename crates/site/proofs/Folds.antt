@@ -1,13 +1,12 @@
 -- The fields of a map, one turn of the reader at a time.
-use Rattle.std.proofs.Common.{◌≡◌, ℕ, zero, suc, ◌+◌, ◌-◌, ◌<◌, ◌≤◌, Bool, true, false, eqb, ltb, List, [], ◌∷◌, length, get_or, take, drop, Ok, Err, Result, sym, refl, ap, ◌∙◌, arith, length-drop}
+use Rattle.std.proofs.Common.{◌≡◌, ℕ, zero, suc, ◌+◌, ◌-◌, ◌<◌, ◌≤◌, false, eqb, List, length, take, drop, Ok, Err, Result, sym, ap, ◌∙◌, arith, length-drop}
 use Rattle.std.proofs.lemmas.List.{take_rest, drop-drop}
 use Rattle.std.proofs.lemmas.Bool.{lt-ltb, le-ltb, eq-eqb, ne_eqb}
-use Rattle.site.specs.declared.refusals.Cause.{Cause}
 use Rattle.site.specs.declared.refusals.Cause.TheVariants.{CutShort}
 use Rattle.site.specs.declared.refusals.Refusal.{Refusal}
 use Rattle.site.specs.Plans.{Plan}
 use Rattle.site.specs.Fields.{declare}
-use Rattle.site.specs.Maps.{blank, body_length, span, front, one_field, fields, onward, placed}
+use Rattle.site.specs.Maps.{blank, span, front, one_field, fields, onward, placed}
 use Rattle.site.specs.Refusals.{refuse}
 
 -- at `at` the plan is s and these bytes are left, and they come to what the whole map comes to

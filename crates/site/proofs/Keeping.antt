@@ -1,15 +1,14 @@
 -- What every field keeps, and what then holds of a sealed map.
-use Rattle.std.proofs.Common.{◌≡◌, ℕ, zero, suc, ◌+◌, ◌<◌, ◌≤◌, Bool, true, false, ◌||◌, ◌⊎◌, List, [], ◌∷◌, ◌++◌, length, get_or, sym, refl, ap, ◌∙◌, subst, inl, inr, ⊎_elim, arith}
+use Rattle.std.proofs.Common.{◌≡◌, ℕ, zero, suc, ◌+◌, ◌<◌, ◌≤◌, Bool, true, false, List, [], ◌∷◌, ◌++◌, length, get_or, sym, refl, ap, ◌∙◌, subst, ⊎_elim, arith}
 use Rattle.std.proofs.lemmas.List.{length_push, get_or_push, get_or_append_left}
 use Rattle.std.proofs.lemmas.Bool.{and_parts, ltb-true, or_parts, cases_eq, both_ways}
-use Rattle.fixed.specs.Rosters.{Absent}
 use Rattle.fixed.specs.Spelling.{is_name}
 use Rattle.site.specs.declared.parts.Link.{Link}
-use Rattle.site.specs.Links.{nowhere, any_link, joins, joined}
+use Rattle.site.specs.Links.{nowhere, any_link, joins}
 use Rattle.site.specs.Plans.{Plan}
 use Rattle.site.specs.Fields.{Field, New, Adds, node, link, class, user, reading}
-use Rattle.site.specs.Maps.{blank, sealable, read_map, Declares, none, next, Says}
-use Rattle.site.specs.Promises.{Proper, Distinct, TwoEnded, Unrepeated, AllLinked, Ranked, Table, Kept, Sound}
+use Rattle.site.specs.Maps.{blank, Declares, none, next, Says}
+use Rattle.site.specs.Promises.{TwoEnded, Table, Kept, Sound}
 use Rattle.site.proofs.Sealing.{all_linked}
 
 -- what holds of each element of a list and of one more at its end

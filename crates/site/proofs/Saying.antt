@@ -1,13 +1,13 @@
 -- Bytes are read as a plan exactly when they say it.
-use Rattle.std.proofs.Common.{◌≡◌, ℕ, zero, suc, ◌+◌, ◌<◌, ◌≤◌, Bool, true, false, cond, eqb, ltb, List, [], ◌∷◌, ◌++◌, length, get_or, take, drop, Ok, Err, Result, sym, refl, ap, ◌∙◌, subst, ⊎_elim, arith, length-drop}
+use Rattle.std.proofs.Common.{◌≡◌, ℕ, zero, suc, ◌+◌, ◌≤◌, true, false, eqb, ltb, List, [], ◌∷◌, ◌++◌, length, drop, Ok, Err, Result, sym, refl, ap, ◌∙◌, subst, ⊎_elim, arith, length-drop}
 use Rattle.std.proofs.lemmas.List.{nil_from_length}
-use Rattle.std.proofs.lemmas.Bool.{cases_Bool, eqb-true, eqb-false, ne_eqb, ltb-false, cond_both}
+use Rattle.std.proofs.lemmas.Bool.{cases_Bool, eqb-true, ne_eqb, ltb-false, cond_both}
 use Rattle.std.specs.List.{flat_map as concat}
 use Rattle.site.specs.declared.refusals.Cause.{Cause}
 use Rattle.site.specs.declared.refusals.Refusal.{Refusal}
 use Rattle.site.specs.Plans.{Plan}
-use Rattle.site.specs.Fields.{Field, field, declare, Adds}
-use Rattle.site.specs.Maps.{blank, body_length, span, front, placed, one_field, sealable, seal, onward, fields, read_map, encoded, Declares, none, next, Says}
+use Rattle.site.specs.Fields.{Field, declare, Adds}
+use Rattle.site.specs.Maps.{blank, span, front, placed, one_field, sealable, seal, onward, fields, read_map, encoded, Declares, none, next, Says}
 use Rattle.site.proofs.Adding.{adds_declare, declare_adds}
 use Rattle.site.proofs.Encoding.{adds_short, encoded_length, encoded_front, encoded_rest, encoded_long, respelled}
 use Rattle.site.proofs.Folds.{judged}

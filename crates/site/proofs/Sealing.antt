@@ -1,5 +1,5 @@
 -- Whether each node has a link, node by node.
-use Rattle.std.proofs.Common.{◌≡◌, ℕ, zero, suc, ◌+◌, ◌<◌, ◌≤◌, Bool, true, false, ◌&&◌, List, sym, refl, ◌∙◌, ⊎_elim, add-one, arith}
+use Rattle.std.proofs.Common.{◌≡◌, ℕ, zero, suc, ◌+◌, ◌<◌, true, false, List, refl, ⊎_elim, add-one, arith}
 use Rattle.std.proofs.lemmas.Bool.{and_left, and_right, and_parts, and_from, cases_eq}
 use Rattle.site.specs.declared.parts.Link.{Link}
 use Rattle.site.specs.Links.{linked}

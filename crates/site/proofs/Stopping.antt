@@ -1,15 +1,14 @@
 -- A refused map: its fields up to the place of the refusal, and the cause there.
-use Rattle.std.proofs.Common.{◌≡◌, ℕ, zero, suc, ◌+◌, ◌<◌, ◌≤◌, Bool, true, false, cond, eqb, List, [], ◌∷◌, ◌++◌, length, drop, Ok, Err, Result, sym, refl, ap, ◌∙◌, subst, ⊎_elim, arith, length-append, length-drop}
+use Rattle.std.proofs.Common.{◌≡◌, ℕ, zero, suc, ◌+◌, ◌<◌, ◌≤◌, false, eqb, List, [], ◌∷◌, ◌++◌, length, drop, Ok, Err, Result, sym, refl, ap, ◌∙◌, subst, ⊎_elim, arith, length-append, length-drop}
 use Rattle.std.proofs.lemmas.List.{append_assoc, append-nil}
 use Rattle.std.proofs.lemmas.Bool.{cases_Bool, eqb-false, cond_both}
 use Rattle.std.specs.List.{flat_map as concat}
-use Rattle.site.specs.declared.refusals.Cause.{Cause}
 use Rattle.site.specs.declared.refusals.Cause.TheVariants.{Unsealable}
 use Rattle.site.specs.declared.refusals.Refusal.{Refusal}
 use Rattle.site.specs.Plans.{Plan}
 use Rattle.site.specs.Fields.{Field}
 use Rattle.site.specs.Maps.{blank, span, front, one_field, sealable, seal, onward, fields, read_map, encoded, Declares, none, next}
-use Rattle.site.specs.Faults.{Told, RefusesAfter, a_field, the_seal, Refuses}
+use Rattle.site.specs.Faults.{Told, a_field, the_seal, Refuses}
 use Rattle.site.proofs.Encoding.{adds_short, respelled}
 use Rattle.site.proofs.Faulting.{FieldWhy, field_why}
 use Rattle.site.proofs.Saying.{Fronted, ToldField, field_told, Spelled, fields_told, ToldFields}

@@ -1,15 +1,15 @@
 -- A sound plan, written out as fields, reads back as itself.
-use Rattle.std.proofs.Common.{◌≡◌, ℕ, zero, suc, ◌+◌, ◌<◌, ◌≤◌, Bool, true, false, List, [], ◌∷◌, ◌++◌, map, length, get_or, drop, Some, None, Ok, Option, sym, refl, ap, ◌∙◌, subst, arith, length-append}
-use Rattle.std.proofs.lemmas.List.{append-nil, append_assoc, length_push, get_or_at, get_or_append_left, nil_from_length}
+use Rattle.std.proofs.Common.{◌≡◌, ℕ, suc, ◌<◌, ◌≤◌, Bool, true, false, List, [], ◌∷◌, ◌++◌, map, length, get_or, Some, None, Ok, Option, sym, refl, ap, ◌∙◌, subst, arith, length-append}
+use Rattle.std.proofs.lemmas.List.{append-nil, append_assoc, get_or_at, get_or_append_left}
 use Rattle.std.proofs.lemmas.Bool.{and_from, or_from, lt-ltb}
 use Rattle.fixed.specs.Spelling.{is_name}
 use Rattle.site.specs.declared.parts.Link.{Link}
 use Rattle.site.specs.declared.parts.Reading.{Reading}
 use Rattle.site.specs.Links.{nowhere, any_link, joins, joined}
 use Rattle.site.specs.Plans.{Plan}
-use Rattle.site.specs.Fields.{Field, field, with_nodes, with_classes, with_users, with_reading, New, Adds, node, link, class, user, reading}
+use Rattle.site.specs.Fields.{Field, field, with_nodes, with_classes, with_users, New, Adds, node, link, class, user, reading}
 use Rattle.site.specs.Maps.{blank, sealable, read_map, Declares, none, next, link_field, user_fields, reading_fields, fields_of, written}
-use Rattle.site.specs.Promises.{Proper, Distinct, TwoEnded, Unrepeated, Table, Kept, Sound}
+use Rattle.site.specs.Promises.{TwoEnded, Unrepeated, Table, Kept, Sound}
 use Rattle.site.proofs.Saying.{says_read}
 use Rattle.site.proofs.Sealing.{linked_all}
 

@@ -5,7 +5,7 @@
 -- Adds: the same as a relation, without the causes.
 use Rattle.std.specs.Prelude.{◌≡◌, ℕ, ◌<◌, Bool, true, false, cond, not, ◌&&◌, List, [], ◌∷◌, ◌++◌, length, drop, is_some, Some, None, Ok, Err, Option, Result, ◌==◌, ◌≢◌, nat_lt, slice_index}
 use Rattle.fixed.specs.declared.roster.NameFault.{NameFault}
-use Rattle.fixed.specs.Rosters.{known, enrol, Absent}
+use Rattle.fixed.specs.Rosters.{enrol, Absent}
 use Rattle.fixed.specs.Spelling.{is_name}
 use Rattle.site.specs.declared.parts.Link.{Link}
 use Rattle.site.specs.declared.parts.Reading.{Reading}

@@ -1,7 +1,7 @@
 -- What the bytes of a map say: fields one after another, and then the seal.
 --
 -- read_map: the plan, or cause and place. Says: the same for an accepted map, as a relation.
-use Rattle.std.specs.Prelude.{◌≡◌, ℕ, zero, suc, ◌+◌, ◌*◌, ◌/◌, ◌%◌, ◌<◌, Bool, true, false, cond, ◌&&◌, List, [], ◌∷◌, ◌++◌, map, length, take, drop, Some, None, Ok, Err, Option, Result, ◌==◌, nat_lt, slice_index}
+use Rattle.std.specs.Prelude.{◌≡◌, ℕ, zero, suc, ◌+◌, ◌*◌, ◌/◌, ◌%◌, Bool, true, cond, ◌&&◌, List, [], ◌∷◌, ◌++◌, map, length, take, drop, Some, None, Ok, Err, Option, Result, ◌==◌, nat_lt, slice_index}
 use Rattle.std.specs.List.{flat_map as concat}
 use Rattle.site.specs.declared.parts.Link.{Link}
 use Rattle.site.specs.declared.parts.Reading.{Reading}

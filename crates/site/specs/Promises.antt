@@ -1,5 +1,5 @@
 -- What holds of every sealed site, promise by promise.
-use Rattle.std.specs.Prelude.{◌≡◌, ℕ, ◌<◌, ◌≤◌, Bool, true, false, List, [], length, get_or, ◌≢◌, slice_index, slice_index_or}
+use Rattle.std.specs.Prelude.{◌≡◌, ℕ, ◌<◌, ◌≤◌, true, List, [], length, get_or, ◌≢◌, slice_index, slice_index_or}
 use Rattle.fixed.specs.Spelling.{is_name}
 use Rattle.site.specs.declared.parts.Link.{Link}
 use Rattle.site.specs.Links.{nowhere, joins, linked}

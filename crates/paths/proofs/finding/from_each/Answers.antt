@@ -1,6 +1,5 @@
-use Rattle.std.proofs.Common.{◌≡◌, ℕ, ◌-◌, false, List, length, get_or, sym, refl, ap, ◌∙◌, subst, arith}
+use Rattle.std.proofs.Common.{◌≡◌, ℕ, ◌-◌, false, length, get_or, sym, refl, ap, ◌∙◌, subst, arith}
 use Rattle.std.proofs.lemmas.Result.{err_from_is_err_and}
-use Rattle.paths.specs.declared.tally.Tally.{Tally}
 use Rattle.paths.specs.declared.trail.Trail.{Trail}
 use Rattle.paths.specs.Found.{starting}
 use Rattle.paths.specs.Roads.{roads_in}

@@ -1,7 +1,6 @@
-use Rattle.std.proofs.Common.{◌≡◌, ℕ, ◌≤◌, List, length, sym, ap, ◌∙◌, subst, arith}
+use Rattle.std.proofs.Common.{◌≡◌, ◌≤◌, length, sym, ap, ◌∙◌, subst, arith}
 use Rattle.fixed.proofs.Held.{items_within}
 use Rattle.site.specs.Sites.{plan}
-use Rattle.paths.specs.declared.roads.Step.{Step}
 use Rattle.paths.specs.Paths.{Judged}
 use Rattle.paths.specs.Patterns.{items_of}
 use Rattle.paths.specs.Roads.{roads_over, roads_in}

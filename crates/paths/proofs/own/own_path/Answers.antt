@@ -1,8 +1,7 @@
-use Rattle.std.proofs.Common.{◌≡◌, ℕ, ◌≤◌, true, List, length, sym, refl, ap, ◌∙◌, subst, inr, arith}
+use Rattle.std.proofs.Common.{◌≡◌, ◌≤◌, true, length, sym, refl, ap, ◌∙◌, subst, inr, arith}
 use Rattle.std.proofs.lemmas.Bool.{both_ways}
 use Rattle.fixed.proofs.Held.{items_within}
 use Rattle.site.specs.Sites.{plan}
-use Rattle.paths.specs.declared.roads.Step.{Step}
 use Rattle.paths.specs.Patterns.{items_of}
 use Rattle.paths.specs.PortSets.{is_port}
 use Rattle.paths.specs.Roads.{roads_over, roads_in}

@@ -1,4 +1,4 @@
-use Rattle.std.proofs.Common.{◌≡◌, ℕ, ◌-◌, false, length, get_or, refl, ap, ◌∙◌, arith}
+use Rattle.std.proofs.Common.{◌≡◌, ◌-◌, false, length, get_or, refl, ap, ◌∙◌, arith}
 use Rattle.paths.specs.declared.trail.Trail.{Trail}
 use Rattle.paths.specs.Found.{starting}
 use Rattle.paths.specs.Roads.{roads_in}

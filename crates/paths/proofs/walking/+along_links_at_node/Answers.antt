@@ -1,8 +1,6 @@
-use Rattle.std.proofs.Common.{◌≡◌, ℕ, ◌+◌, ◌*◌, ◌<◌, ◌≤◌, true, List, [], length, get_or, set, refl, ap, ◌∙◌, arith}
+use Rattle.std.proofs.Common.{◌≡◌, ◌+◌, ◌*◌, ◌<◌, ◌≤◌, true, [], length, get_or, set, refl, ap, ◌∙◌, arith}
 use Rattle.std.proofs.lemmas.Result.{err_from_is_err_and}
 use Rattle.std.proofs.lemmas.List.{length-set}
-use Rattle.paths.specs.declared.roads.Step.{Step}
-use Rattle.paths.specs.declared.tally.Tally.{Tally}
 use Rattle.paths.specs.declared.trail.Trail.{Trail}
 use Rattle.paths.specs.Roads.{roads_in}
 use Rattle.paths.specs.Walks.{free, walks, beyond}

@@ -1,4 +1,4 @@
-use Rattle.std.proofs.Common.{sym, ap, ◌∙◌}
+use Rattle.std.proofs.Common.{sym, ap}
 use Rattle.site.specs.Sites.{plan}
 use Rattle.std.proofs.lemmas.Bool.{cond-true}
 use Rattle.sheet.specs.Sheets.{name_at}

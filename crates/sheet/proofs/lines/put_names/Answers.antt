@@ -1,4 +1,4 @@
-use Rattle.std.proofs.Common.{◌≡◌, ℕ, List, get_or, vec_items, sym, refl, ap, ◌∙◌, subst}
+use Rattle.std.proofs.Common.{ℕ, List, vec_items, ap, ◌∙◌, subst}
 use Rattle.fixed.specs.Names.{spelling}
 use Rattle.sheet.specs.Sheets.{Appended, name_line}
 use Rattle.sheet.proofs.Putting.{written_more, written_all}

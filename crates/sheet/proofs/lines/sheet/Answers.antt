@@ -1,4 +1,4 @@
-use Rattle.std.proofs.Common.{[], ◌++◌, vec_items, codes, ap, ◌∙◌}
+use Rattle.std.proofs.Common.{◌++◌, codes, ap, ◌∙◌}
 use Rattle.fixed.specs.Names.{spelling}
 use Rattle.site.specs.Sites.{plan}
 use Rattle.sheet.specs.Sheets.{each_from, name_line, reading_line, sheet_of}

@@ -1,4 +1,4 @@
-use Rattle.std.proofs.Common.{sym, ◌∙◌}
+use Rattle.std.proofs.Common.{sym}
 use Rattle.site.proofs.Sealing.{linked_more, linked_lacks}
 use Rattle.site.proofs.reader.are_linked.Goals as goal
 

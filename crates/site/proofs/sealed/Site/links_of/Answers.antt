@@ -1,7 +1,6 @@
-use Rattle.std.proofs.Common.{◌≡◌, ℕ, ◌+◌, ◌≤◌, List, ◌++◌, length, sym, ap, ◌∙◌, subst, arith}
+use Rattle.std.proofs.Common.{◌+◌, ◌≤◌, ◌++◌, length, sym, ap, ◌∙◌, subst, arith}
 use Rattle.fixed.specs.Items.{items}
 use Rattle.fixed.proofs.Held.{items_within}
-use Rattle.site.specs.declared.parts.Link.{Link}
 use Rattle.site.specs.Links.{links_at}
 use Rattle.site.proofs.Asking.{Found, passed, noted, found_all}
 use Rattle.site.proofs.sealed.Site.links_of.Goals as goal

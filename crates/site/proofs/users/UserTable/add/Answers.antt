@@ -1,10 +1,8 @@
-use Rattle.std.proofs.Common.{◌≡◌, ℕ, ◌<◌, true, List, [], ◌∷◌, ◌++◌, length, get_or, drop, Ok, Err, sym, refl, ap, ◌∙◌, arith}
-use Rattle.std.proofs.lemmas.List.{take_rest, length_push}
+use Rattle.std.proofs.Common.{◌≡◌, get_or, drop, Ok, sym, refl, ap, ◌∙◌}
+use Rattle.std.proofs.lemmas.List.{take_rest}
 use Rattle.std.proofs.lemmas.Result.{err_from_is_err_and}
-use Rattle.std.proofs.lemmas.Bool.{lt-ltb, cond-true}
 use Rattle.fixed.specs.Items.{items}
 use Rattle.fixed.specs.Rosters.{names, enrol}
-use Rattle.fixed.proofs.Enrolling.{Enrolled, enrolled}
 use Rattle.site.proofs.Seating.{user_refused, rank_zero, user_added, rank_pushed, level_again}
 use Rattle.site.proofs.users.UserTable.add.Goals as goal
 use Rattle.site.proofs.users.UserTable.add.Goals.{In_ok-add}
