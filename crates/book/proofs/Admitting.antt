@@ -1,15 +1,14 @@
 -- Which rules stand, by the calls alone: those of an accepted admit with no accepted withdraw of their id after it.
-use Rattle.std.proofs.Common.{◌≡◌, ℕ, zero, suc, ◌+◌, ◌<◌, ◌≤◌, Bool, true, false, cond, ◌⊎◌, List, [], ◌∷◌, ◌++◌, length, Some, None, Ok, Err, Result, sym, refl, ap, ◌∙◌, subst, inl, inr, ⊎_elim, arith, length-append}
+use Rattle.std.proofs.Common.{◌≡◌, ℕ, zero, suc, ◌<◌, Bool, true, false, ◌⊎◌, List, [], ◌∷◌, ◌++◌, length, Some, Ok, Err, sym, refl, ap, ◌∙◌, subst, inl, inr, ⊎_elim, arith, length-append}
 use Rattle.std.specs.List.{slice_get}
 use Rattle.std.specs.Str.{bytes_eq}
 use Rattle.std.proofs.lemmas.Slice.Eq.{bytes_eq-Decides}
 use Rattle.std.proofs.lemmas.Bool.{cases_Bool, cond-true, cond-false}
 use Rattle.kind.specs.Sense.{Sense}
-use Rattle.site.specs.declared.refusals.Refusal.{Refusal}
 use Rattle.site.specs.Plans.{Plan}
 use Rattle.rules.specs.Rules.{Ruling, read_rule}
 use Rattle.pairs.specs.Lists.{Has, here, there}
-use Rattle.book.specs.Runs.{Step, admit, withdraw, report, decide, route, Known, without, read, after, Right, admits, LedTo, at_first, next, Admitted, StandByCalls}
+use Rattle.book.specs.Runs.{Step, admit, withdraw, report, decide, route, Known, without, read, after, admits, LedTo, at_first, next, Admitted, StandByCalls}
 use Rattle.pairs.proofs.Having.{has_cases, has_left, has_right, has_none, has_one, has_nth, nth_has, nth_push, nth_front}
 use Rattle.book.proofs.Laws.{has_without}
 

@@ -1,18 +1,17 @@
 -- A path drawn for a rule, from one drawn for its patterns.
-use Rattle.std.proofs.Common.{◌≡◌, ℕ, ◌<◌, ◌≤◌, ◌⊎◌, List, [], ◌∷◌, map, length, get_or, Some, None, Option, sym, refl, ap, ◌∙◌, subst, inl, inr, ⊎_elim, arith, MatchOption}
-use Rattle.std.specs.List.{slice_get}
+use Rattle.std.proofs.Common.{◌≡◌, ℕ, ◌<◌, ◌≤◌, List, [], ◌∷◌, map, length, get_or, Some, None, Option, sym, refl, ap, ◌∙◌, subst, inl, inr, ⊎_elim, arith, MatchOption}
 use Rattle.std.proofs.lemmas.List.{length-map}
 use Rattle.fixed.specs.Items.{items}
 use Rattle.site.specs.Plans.{Plan}
 use Rattle.paths.specs.declared.pattern.Item.{Item}
 use Rattle.paths.specs.declared.pattern.Pattern.{Pattern}
 use Rattle.paths.specs.declared.ports.Port.{Port}
-use Rattle.paths.specs.Paths.{In, Own, Touches}
+use Rattle.paths.specs.Paths.{In, Own}
 use Rattle.paths.specs.Patterns.{items_of}
 use Rattle.paths.specs.Routes.{NoRoute, Routed}
 use Rattle.rules.specs.declared.rule.Rule.{Rule}
 use Rattle.rules.specs.Rules.{Ruling, rule_of}
-use Rattle.book.specs.Drawing.{Reached, DrawnAt, NoneDrawn}
+use Rattle.book.specs.Drawing.{DrawnAt, NoneDrawn}
 use Rattle.pairs.specs.Lists.{Has, here, there}
 use Rattle.pairs.proofs.Having.{nth_within, nth_one}
 use Rattle.pairs.proofs.Seeing.{seen_nth}

@@ -1,13 +1,12 @@
 -- Where a rule of an id stands, and what is left without it.
-use Rattle.std.proofs.Common.{◌≡◌, ℕ, zero, suc, ◌+◌, ◌<◌, ◌≤◌, Bool, true, false, cond, List, [], ◌∷◌, ◌++◌, map, length, get_or, take, drop, Some, None, Decides, Option, sym, refl, ap, ◌∙◌, subst, append_assoc, add-one, arith, MatchOption}
+use Rattle.std.proofs.Common.{◌≡◌, ℕ, ◌+◌, ◌<◌, ◌≤◌, Bool, true, false, cond, List, [], ◌∷◌, ◌++◌, map, length, get_or, take, drop, Some, None, Decides, Option, sym, refl, ap, ◌∙◌, subst, append_assoc, add-one, arith, MatchOption}
 use Rattle.std.specs.List.{remove}
-use Rattle.std.specs.Str.{bytes_eq}
 use Rattle.std.proofs.lemmas.Slice.Eq.{bytes_eq-Decides}
 use Rattle.std.proofs.lemmas.List.{take_more, drop_more, drop_all, length-map}
 use Rattle.fixed.specs.Names.{spelling}
 use Rattle.rules.specs.declared.rule.Rule.{Rule}
 use Rattle.rules.specs.Rules.{Ruling, rule_of}
-use Rattle.pairs.specs.Lists.{Has, here, there}
+use Rattle.pairs.specs.Lists.{here, there}
 use Rattle.book.specs.Runs.{without, Known}
 use Rattle.book.proofs.Gaps.{front_len}
 use Rattle.pairs.proofs.Having.{nth_has}

@@ -1,5 +1,5 @@
 -- What a history says stands; a report with no open pair, and how long it lasts; what a report names, and how long that stands.
-use Rattle.std.proofs.Common.{◌≡◌, ℕ, zero, suc, ◌+◌, ◌<◌, ◌≤◌, Bool, true, false, cond, eqb, ltb, ◌⊎◌, List, [], ◌∷◌, ◌++◌, length, take, Some, None, Ok, Err, Option, Result, sym, refl, ap, ◌∙◌, subst, inl, inr, ⊎_elim, arith}
+use Rattle.std.proofs.Common.{◌≡◌, ℕ, ◌<◌, ◌≤◌, true, false, cond, eqb, ltb, ◌⊎◌, List, [], ◌∷◌, ◌++◌, length, take, Some, Ok, Err, Result, sym, refl, ap, ◌∙◌, subst, inl, inr, ⊎_elim, arith}
 use Rattle.std.specs.List.{slice_get}
 use Rattle.std.specs.Str.{bytes_eq}
 use Rattle.std.proofs.lemmas.Bool.{false≢true, cases_order, eq-eqb, both_ways}
@@ -7,22 +7,20 @@ use Rattle.kind.specs.Sense.{Sense}
 use Rattle.site.specs.declared.refusals.Refusal.{Refusal}
 use Rattle.site.specs.Plans.{Plan}
 use Rattle.paths.specs.declared.ports.Port.{Port}
-use Rattle.paths.specs.PortSets.{is_port, Shared}
 use Rattle.rules.specs.declared.verdict.Saying.{Saying}
 use Rattle.rules.specs.declared.verdict.Saying.TheVariants.{Permit, Deny, Silent}
 use Rattle.rules.specs.Rules.{Ruling, read_rule}
 use Rattle.pairs.specs.declared.answers.Entry.{Entry}
-use Rattle.pairs.specs.declared.answers.Mark.{Mark}
 use Rattle.pairs.specs.declared.answers.Mark.TheVariants.{Open, First, Second}
 use Rattle.pairs.specs.declared.answers.Totals.{Totals}
 use Rattle.deciding.specs.declared.settling.Decision.{Decision}
 use Rattle.deciding.specs.declared.settling.Decision.TheVariants.{Split}
 use Rattle.deciding.specs.Deciding.{Held, Decides, DecidesBy}
-use Rattle.pairs.specs.Disagreement.{saying, opposed, mark_of, Contradict, ContradictAt}
+use Rattle.pairs.specs.Disagreement.{saying, opposed, Contradict}
 use Rattle.book.specs.Drawing.{Touching, Reached, DrawnAt}
 use Rattle.pairs.specs.Lists.{Has, here, there}
 use Rattle.pairs.specs.Pairs.{opens, one_open, NamesAll}
-use Rattle.book.specs.Runs.{Step, admit, withdraw, report, decide, route, Known, without, read, RemovesNone, AddsNone, Settled, Mentions, after, standing, Right, admits, unread, id_stands, full, withdraws, no_such_id, reports, short_list, decides, no_port_or_class, off_ground, routes, short_buffer, no_port, untouched, LedTo, at_first, next, Decided, DecidedByPaths, Routed}
+use Rattle.book.specs.Runs.{Step, admit, withdraw, report, decide, route, without, read, RemovesNone, AddsNone, Mentions, after, standing, Right, admits, reports, routes, short_buffer, no_port, untouched, LedTo, at_first, next, Decided, DecidedByPaths, Routed}
 use Rattle.pairs.proofs.Having.{has_cases, has_none, has_one, has_nth, nth_has, nth_longer, nth_one}
 use Rattle.book.proofs.Reader.{Sealed, read_touching}
 use Rattle.deciding.proofs.Voices.{decides_also}

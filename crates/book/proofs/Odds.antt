@@ -1,5 +1,5 @@
 -- Contradiction by sets of ports is contradiction by own paths, where the ports of each rule are those that its paths touch.
-use Rattle.std.proofs.Common.{◌≡◌, ℕ, true, ◌⊎◌, List, refl, ap, ◌∙◌, inl, inr}
+use Rattle.std.proofs.Common.{◌≡◌, ℕ, true, List, refl, ap, ◌∙◌, inl, inr}
 use Rattle.std.proofs.lemmas.Bool.{false≢true}
 use Rattle.kind.specs.Sense.{Sense}
 use Rattle.site.specs.Plans.{Plan}

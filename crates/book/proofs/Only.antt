@@ -1,5 +1,5 @@
 -- Each call has one right answer.
-use Rattle.std.proofs.Common.{◌≡◌, ℕ, ◌+◌, ◌<◌, ◌≤◌, Bool, true, false, cond, ◌⊎◌, List, [], ◌∷◌, ◌++◌, length, take, Some, None, Ok, Err, Result, sym, refl, ap, ◌∙◌, subst, inl, inr, ⊎_elim, arith}
+use Rattle.std.proofs.Common.{◌≡◌, ℕ, ◌+◌, ◌<◌, ◌≤◌, true, false, ◌⊎◌, List, [], ◌∷◌, length, take, Ok, Err, Result, sym, refl, ap, ◌∙◌, subst, inl, inr, ⊎_elim, arith}
 use Rattle.std.proofs.lemmas.List.{length-take-le}
 use Rattle.std.proofs.lemmas.Bool.{both_ways}
 use Rattle.std.specs.List.{slice_get}
@@ -22,7 +22,7 @@ use Rattle.pairs.specs.Disagreement.{mark_of}
 use Rattle.book.specs.Drawing.{DrawnAt, NoneDrawn}
 use Rattle.pairs.specs.Lists.{Has, here, there}
 use Rattle.pairs.specs.Pairs.{InOrder, Alike, one_open, opens, Names, NamesAll, Reports}
-use Rattle.book.specs.Runs.{Step, admit, withdraw, report, decide, route, Known, refusal, Right, admits, unread, id_stands, full, withdraws, no_such_id, reports, short_list, decides, no_port_or_class, off_ground, routes, short_buffer, no_port, untouched, OneAnswer}
+use Rattle.book.specs.Runs.{admit, withdraw, report, decide, route, Known, refusal, Right, admits, unread, id_stands, full, withdraws, no_such_id, reports, short_list, decides, no_port_or_class, off_ground, routes, short_buffer, no_port, untouched, OneAnswer}
 use Rattle.pairs.proofs.Having.{nth_one}
 use Rattle.pairs.proofs.Alike.{alike_same, lists_alike, lists_exact}
 use Rattle.pairs.proofs.Naming.{no_longer, told, fewer}

@@ -1,5 +1,5 @@
 -- What is known of a rule that was read on a sealed site: its ports are those that its own paths touch.
-use Rattle.std.proofs.Common.{◌≡◌, ℕ, ◌+◌, ◌≤◌, Bool, true, false, ◌⊎◌, List, [], ◌∷◌, length, Ok, Err, Decides, Result, sym, refl, ap, ◌∙◌, subst, inl, inr, ⊎_elim, arith}
+use Rattle.std.proofs.Common.{◌≡◌, ℕ, ◌+◌, ◌≤◌, true, ◌⊎◌, List, [], ◌∷◌, length, Ok, Err, Decides, Result, sym, refl, ap, ◌∙◌, subst, inl, inr, ⊎_elim, arith}
 use lib.Bits.{bit_or}
 use Rattle.std.proofs.lemmas.List.{length-map}
 use Rattle.std.proofs.lemmas.Bool.{false≢true, and_parts, and_from, or_cases, or_left, or_right}
@@ -17,7 +17,7 @@ use Rattle.paths.specs.declared.pattern.Item.{Item}
 use Rattle.paths.specs.declared.ports.Port.{Port}
 use Rattle.paths.specs.declared.ports.PortSet.{PortSet}
 use Rattle.paths.specs.Found.{searched}
-use Rattle.paths.specs.Paths.{Own, Touches, Touched, Judged}
+use Rattle.paths.specs.Paths.{Own, Touches, Judged}
 use Rattle.paths.specs.Digits.{has}
 use Rattle.paths.specs.PortSets.{is_port, number_of, holds}
 use Rattle.paths.specs.Unions.{next}

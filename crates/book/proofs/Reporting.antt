@@ -1,20 +1,18 @@
 -- The laws of a report, from what is reported now.
-use Rattle.std.proofs.Common.{◌≡◌, ℕ, zero, suc, ◌+◌, ◌<◌, ◌≤◌, Bool, true, false, cond, eqb, ltb, ◌⊎◌, List, [], ◌∷◌, ◌++◌, length, take, drop, set, IfOk, Some, Result, sym, refl, ap, ◌∙◌, subst, inl, inr, ⊎_elim, arith, length-set}
+use Rattle.std.proofs.Common.{◌≡◌, ℕ, List, take, IfOk, Some, Result, sym, ap, ◌∙◌, subst, arith}
 use Rattle.std.specs.List.{slice_get}
 use Rattle.site.specs.declared.refusals.Refusal.{Refusal}
 use Rattle.pairs.specs.declared.answers.Totals.{Totals}
-use Rattle.std.proofs.lemmas.List.{length_push, take_more_set, drop-drop, drop-set-lt, length-take-le}
-use Rattle.std.proofs.lemmas.Bool.{cases_order, cases_Bool, eqb-true, eq-eqb, cond-true, cond-false}
+use Rattle.std.proofs.lemmas.List.{length-take-le}
+use Rattle.std.proofs.lemmas.Bool.{eq-eqb, cond-true}
 use Rattle.kind.specs.Sense.{Sense, Laws}
 use Rattle.site.specs.Plans.{Plan}
 use Rattle.rules.specs.Rules.{Ruling}
 use Rattle.pairs.specs.declared.answers.Entry.{Entry}
-use Rattle.pairs.specs.declared.answers.Mark.{Mark}
-use Rattle.pairs.specs.declared.answers.Mark.TheVariants.{Open, First, Second}
-use Rattle.pairs.specs.Disagreement.{mark_of, Contradict, ContradictAt, Tells}
-use Rattle.pairs.specs.Lists.{Has, here, there}
+use Rattle.pairs.specs.Disagreement.{ContradictAt, Tells}
+use Rattle.pairs.specs.Lists.{Has}
 use Rattle.pairs.specs.Pairs.{Named, Clashing, Reports, Listed, reports as listed_all, short_list as listed_short}
-use Rattle.pairs.proofs.Having.{has_cases, has_left, has_right, has_none, has_one, nth_has, nth_within, nth_one}
+use Rattle.pairs.proofs.Having.{nth_has, nth_one}
 use Rattle.pairs.proofs.Naming.{told, shows, open_means}
 use Rattle.book.specs.Runs.{Step, report, standing, Right, reports, short_list, LedTo, Reported, ReportedByPaths}
 use Rattle.book.proofs.Laws.{stands_so, touching_so}

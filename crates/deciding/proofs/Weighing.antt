@@ -1,5 +1,5 @@
 -- A tally of the rules heard so far.
-use Rattle.std.proofs.Common.{◌≡◌, ℕ, ◌+◌, ◌<◌, ◌≤◌, Bool, true, false, cond, ◌&&◌, ◌||◌, ltb, ◌⊎◌, List, [], ◌∷◌, ◌++◌, map, length, get_or, take, sym, refl, ap, ◌∙◌, subst, inl, inr, ⊎_elim, arith}
+use Rattle.std.proofs.Common.{◌≡◌, ℕ, ◌+◌, ◌<◌, ◌≤◌, Bool, true, false, ◌&&◌, ◌||◌, ltb, ◌⊎◌, List, [], ◌∷◌, ◌++◌, map, length, get_or, take, sym, refl, ap, ◌∙◌, subst, inl, inr, ⊎_elim, arith}
 use Rattle.std.proofs.lemmas.Bool.{true≢false, false≢true, cases_Bool, and_parts, and_from, cond-true, cond-false, or_cases, or_parts, ltb-true, ltb-false}
 use Rattle.kind.specs.Sense.{Sense}
 use Rattle.site.specs.Plans.{Plan}
@@ -11,7 +11,7 @@ use Rattle.rules.specs.Rules.{Ruling, rule_of}
 use Rattle.deciding.specs.declared.settling.Tally.{Tally}
 use Rattle.deciding.specs.Deciding.{Speaks, Voice, Decides}
 use Rattle.pairs.specs.Disagreement.{touches, saying}
-use Rattle.pairs.specs.Lists.{Has, here, there}
+use Rattle.pairs.specs.Lists.{Has, here}
 use Rattle.deciding.specs.Tallies.{heard, joined, counted, verdict}
 use Rattle.pairs.proofs.Having.{has_cases, has_left, has_right, has_none, has_one}
 use Rattle.pairs.proofs.Seeing.{seen_more}

@@ -1,5 +1,5 @@
 -- A text, and another behind it, written to the front of a buffer; and the rules of a line.
-use Rattle.std.proofs.Common.{◌≡◌, ℕ, ◌+◌, ◌-◌, ◌<◌, ◌≤◌, true, false, List, [], ◌∷◌, ◌++◌, map, length, get_or, take, drop, Some, sym, refl, ap, ◌∙◌, append_assoc, arith, length-append, length-drop, take-append-drop, length-take}
+use Rattle.std.proofs.Common.{◌≡◌, ℕ, ◌+◌, ◌-◌, ◌<◌, ◌≤◌, true, false, List, [], ◌++◌, map, length, get_or, take, drop, Some, sym, ap, ◌∙◌, append_assoc, arith, length-append, length-drop, take-append-drop}
 use borrow.Rule.Slice.PartMut.{put_mid, post_of, Post-is}
 use Rattle.std.specs.List.{slice_get}
 use Rattle.std.proofs.lemmas.List.{drop_at, drop_all, drop-drop, append-nil, take_rest, length-map, length-take-le}

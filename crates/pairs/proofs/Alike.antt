@@ -1,21 +1,18 @@
 -- Two lists that name all pairs of the same rules are one by one the same, but for the points.
-use Rattle.std.proofs.Common.{◌≡◌, ℕ, ◌<◌, ◌≤◌, ◌⊎◌, List, [], ◌∷◌, ◌++◌, take, drop, sym, refl, ap, ◌∙◌, subst, inl, inr, ⊎_elim, arith, take-append-drop}
+use Rattle.std.proofs.Common.{◌≡◌, ℕ, List, [], ◌∷◌, ◌++◌, take, drop, sym, refl, ap, ◌∙◌, subst, inl, inr, ⊎_elim, arith, take-append-drop}
 use Rattle.std.specs.List.{slice_get}
 use Rattle.std.proofs.lemmas.Bool.{cases_order}
 use Rattle.kind.specs.Sense.{Sense, Laws, OneGiven}
-use Rattle.site.specs.declared.parts.Link.{Link}
 use Rattle.site.specs.Plans.{Plan}
 use Rattle.paths.specs.declared.ports.Port.{Port}
-use Rattle.paths.specs.declared.ports.PortSet.{PortSet}
-use Rattle.paths.specs.PortSets.{NotAfter, Lowest}
+use Rattle.paths.specs.PortSets.{NotAfter}
 use Rattle.rules.specs.Rules.{Ruling}
 use Rattle.pairs.specs.declared.answers.Entry.{Entry}
-use Rattle.pairs.specs.declared.answers.Mark.{Mark}
-use Rattle.pairs.specs.Disagreement.{mark_of, LowestClass, Tells}
+use Rattle.pairs.specs.Disagreement.{LowestClass, Tells}
 use Rattle.pairs.specs.Lists.{Has, here, there}
 use Rattle.pairs.specs.Pairs.{Earlier, InOrder, Alike, pointed, SpeaksOf, NamesAll, Reports}
 use Rattle.pairs.proofs.Having.{has_cases, has_none, has_one, nth_one}
-use Rattle.pairs.proofs.Naming.{lex_not, lex_trans, lex_same, lex_upto, told}
+use Rattle.pairs.proofs.Naming.{lex_not, lex_trans, lex_upto, told}
 
 -- entries of the same two positions
 abbrev SamePair : {P : Type 0} → Entry P → Entry P → Type 0

@@ -1,8 +1,8 @@
 -- Lists of entries that name the pairs up to a place.
-use Rattle.std.proofs.Common.{◌≡◌, ℕ, zero, suc, ◌+◌, ◌<◌, ◌≤◌, Bool, true, false, cond, eqb, ltb, ◌⊎◌, List, [], ◌∷◌, ◌++◌, length, take, drop, set, Some, sym, refl, ap, ◌∙◌, subst, inl, inr, ⊎_elim, arith, length-set}
+use Rattle.std.proofs.Common.{◌≡◌, ℕ, ◌+◌, ◌<◌, ◌≤◌, cond, eqb, ltb, ◌⊎◌, List, [], ◌∷◌, ◌++◌, length, take, drop, set, Some, sym, refl, ap, ◌∙◌, subst, inl, inr, ⊎_elim, arith, length-set}
 use Rattle.std.specs.List.{slice_get}
 use Rattle.std.proofs.lemmas.List.{length_push, take_more_set, drop-drop, drop-set-lt, length-take-le}
-use Rattle.std.proofs.lemmas.Bool.{cases_order, cases_Bool, eqb-true, eq-eqb, cond-true, cond-false}
+use Rattle.std.proofs.lemmas.Bool.{cases_order, cases_Bool, eqb-true, cond-true, cond-false}
 use Rattle.kind.specs.Sense.{Sense, Laws}
 use Rattle.site.specs.Plans.{Plan}
 use Rattle.rules.specs.Rules.{Ruling}
@@ -12,7 +12,7 @@ use Rattle.pairs.specs.declared.answers.Mark.TheVariants.{Open, First, Second}
 use Rattle.pairs.specs.Disagreement.{mark_of, Contradict, ContradictAt, Tells}
 use Rattle.pairs.specs.Lists.{Has, here, there}
 use Rattle.pairs.specs.Pairs.{Named, Earlier, InOrder, one_open, opens, Clashing, SpeaksOf, Names, NamesAll, Reports}
-use Rattle.pairs.proofs.Having.{has_cases, has_left, has_right, has_none, has_one, nth_has, nth_within, nth_one}
+use Rattle.pairs.proofs.Having.{has_cases, has_left, has_right, has_none, has_one, nth_within, nth_one}
 
 -- places in turn: by the first number, then by the second
 abbrev pub Lex : ℕ → ℕ → ℕ → ℕ → Type 0

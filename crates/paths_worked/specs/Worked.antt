@@ -2,7 +2,6 @@
 use Rattle.std.specs.Prelude.{◌≡◌, ℕ, List, [], ◌∷◌, map, Ok, Err, filter}
 use Rattle.site.specs.declared.parts.Link.{Link}
 use Rattle.paths.specs.declared.finding.Fault.TheVariants.{NoPath}
-use Rattle.paths.specs.declared.pattern.Item.{Item}
 use Rattle.paths.specs.declared.pattern.Item.TheVariants.{Node, Star}
 use Rattle.paths.specs.Digits.{has}
 use Rattle.paths.specs.Found.{all_walks, searched}

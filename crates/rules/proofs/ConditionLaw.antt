@@ -16,7 +16,7 @@ use Rattle.sections.specs.Conditions.{Conditions, state, begun, offered, offered
 use Rattle.rules.specs.Grammar.{SignNext, Comparing, same, differs, at_least, at_most, ComparisonAt, ComparisonsAt, one, also, ConditionsAt, any, some}
 use Rattle.sections.specs.Meeting.{read_section, onward}
 use Rattle.words.specs.Tests.{is_sign, is_named, is_value}
-use Rattle.words.specs.Writing.{Token, name, spelling, valued, Stands, Next, kind}
+use Rattle.words.specs.Writing.{Token, name, spelling, Stands, Next, kind}
 use Rattle.words.specs.Writing.{sign as signToken}
 use Rattle.rules.proofs.Courses.{onward_ok, which, ok_same, by, kept_through}
 use Rattle.sections.proofs.Folds.{Sofar, ended}

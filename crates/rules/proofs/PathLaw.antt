@@ -1,5 +1,5 @@
 -- The section of paths is read exactly where it is written.
-use Rattle.std.proofs.Common.{◌≡◌, ℕ, ◌+◌, ◌<◌, ◌≤◌, true, ◌&&◌, ltb, List, [], ◌∷◌, ◌++◌, length, Some, None, Ok, Option, Result, sym, refl, ap, ◌∙◌, subst, inl, inr, arith}
+use Rattle.std.proofs.Common.{◌≡◌, ℕ, ◌+◌, ◌<◌, true, ◌&&◌, ltb, List, [], ◌∷◌, ◌++◌, length, Some, None, Ok, Option, Result, sym, refl, ap, ◌∙◌, subst, inl, inr, arith}
 use mathlib.Core.Bool.{false≢true}
 use Rattle.std.proofs.lemmas.List.{length_push}
 use Rattle.std.proofs.lemmas.Bool.{ltb-true, lt-ltb, and_parts, and_from, cond-true}
@@ -15,7 +15,7 @@ use Rattle.rules.specs.Grammar.{SignNext, ItemAt, star, node, ItemsAt, one, also
 use Rattle.sections.specs.Meeting.{read_section, onward}
 use Rattle.words.specs.Tests.{is_sign, is_named}
 use Rattle.sections.specs.Routes.{Paths, paths, kept, added, added_node, numbered, meet_in, no_paths, path_section, paths_done}
-use Rattle.words.specs.Writing.{Token, spelling, valued, Stands, kind}
+use Rattle.words.specs.Writing.{Token, spelling, Stands, kind}
 use Rattle.words.specs.Writing.{sign as signToken}
 use Rattle.rules.proofs.Courses.{onward_ok, which, ok_same, by, kept_through}
 use Rattle.sections.proofs.Folds.{Sofar, ended}

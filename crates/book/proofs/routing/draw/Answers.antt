@@ -1,4 +1,4 @@
-use Rattle.std.proofs.Common.{◌≡◌, sym, refl, ap, ◌∙◌}
+use Rattle.std.proofs.Common.{refl}
 use Rattle.site.specs.Sites.{plan}
 use Rattle.book.proofs.Drawn.{none_past, drawn}
 use Rattle.book.proofs.routing.draw.Goals as goal

@@ -1,4 +1,4 @@
-use Rattle.std.proofs.Common.{◌≡◌, ◌+◌, map, take, sym, ap, ◌∙◌, subst}
+use Rattle.std.proofs.Common.{◌+◌, map, take, sym, ap, ◌∙◌, subst}
 use Rattle.std.proofs.lemmas.List.{take_all}
 use Rattle.site.specs.Sites.{plan}
 use Rattle.rules.specs.Rules.{rule_of}

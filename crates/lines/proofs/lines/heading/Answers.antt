@@ -1,4 +1,4 @@
-use Rattle.std.proofs.Common.{◌≡◌, sym, ap, ◌∙◌}
+use Rattle.std.proofs.Common.{sym}
 use Rattle.site.specs.Sites.{plan}
 use Rattle.rules.specs.Rules.{rule_of}
 use Rattle.lines.proofs.Behind.{past, missed, stand}

@@ -1,4 +1,4 @@
-use Rattle.std.proofs.Common.{◌≡◌, ℕ, ◌<◌, List, ◌++◌, map, length, sym, ap, ◌∙◌, subst, inl, inr, arith}
+use Rattle.std.proofs.Common.{◌≡◌, ℕ, List, ◌++◌, map, sym, ◌∙◌, subst, inl, inr, arith}
 use Rattle.kind.specs.Texts.{shown}
 use Rattle.rules.specs.Rules.{Ruling}
 use Rattle.rules.specs.Rules.{rule_of}

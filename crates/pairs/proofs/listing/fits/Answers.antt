@@ -1,4 +1,4 @@
-use Rattle.std.proofs.Common.{◌≡◌, ◌+◌, map, sym, subst, arith}
+use Rattle.std.proofs.Common.{◌+◌, map, sym, subst, arith}
 use Rattle.std.proofs.lemmas.List.{length-map}
 use Rattle.std.proofs.lemmas.Bool.{true≢false, false≢true}
 use Rattle.site.specs.Sites.{plan}

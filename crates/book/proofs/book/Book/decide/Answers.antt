@@ -1,4 +1,4 @@
-use Rattle.std.proofs.Common.{◌≡◌, ◌<◌, length, Ok, sym, refl, inl, inr, arith}
+use Rattle.std.proofs.Common.{◌<◌, length, Ok, sym, refl, inl, inr, arith}
 use native.Mathlib.Nat.{sub-zero}
 use Rattle.site.specs.declared.refusals.Cause.TheVariants.{NoPortOrClass, OffGround}
 use Rattle.site.specs.Refusals.{refuse}

@@ -1,4 +1,4 @@
-use Rattle.std.proofs.Common.{◌≡◌, refl}
+use Rattle.std.proofs.Common.{refl}
 use native.Mathlib.Nat.{sub-zero}
 use Rattle.pairs.specs.Pairs.{Listed}
 use Rattle.book.specs.Books.{map_of, room, rules}

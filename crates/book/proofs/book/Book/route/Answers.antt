@@ -1,4 +1,4 @@
-use Rattle.std.proofs.Common.{◌≡◌, Ok, sym, refl, subst}
+use Rattle.std.proofs.Common.{Ok, sym, refl, subst}
 use native.Mathlib.Nat.{sub-zero}
 use Rattle.site.specs.declared.refusals.Cause.TheVariants.{NoRoom, NoPortOrClass, NotTouched}
 use Rattle.site.specs.Refusals.{refuse}
