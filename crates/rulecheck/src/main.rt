@@ -13,6 +13,7 @@ use std::alloc::Global;
 use std::fs::File;
 use std::io;
 use std::io::Read;
+use std::process::ExitCode;
 
 // The longest map and the longest rule text that are read, in bytes.
 const MOST: usize = 65536;
@@ -67,10 +68,12 @@ fn run(rt: &HostRuntime) -> io::Result<()> {
     }
 }
 
-fn main(rt: HostRuntime) -> io::Result<()> {
-    let done = run(&rt);
-    if let Err(e) = &done {
-        let _ = eprintln!(rt; "rulecheck: {e}");
+fn main(rt: HostRuntime) -> ExitCode {
+    match run(&rt) {
+        Ok(()) => ExitCode::SUCCESS,
+        Err(e) => {
+            let _ = eprintln!(rt; "rulecheck: {e}");
+            ExitCode::FAILURE
+        }
     }
-    done
 }

@@ -7,6 +7,7 @@ use std::alloc::Global;
 use std::fs::File;
 use std::io;
 use std::io::{Read, Write};
+use std::process::ExitCode;
 
 // The longest map that is read, in bytes.
 const MOST: usize = 65536;
@@ -33,10 +34,12 @@ fn run(rt: &HostRuntime) -> io::Result<()> {
     }
 }
 
-fn main(rt: HostRuntime) -> io::Result<()> {
-    let done = run(&rt);
-    if let Err(e) = &done {
-        let _ = eprintln!(rt; "sitesheet: site.map: {e}");
+fn main(rt: HostRuntime) -> ExitCode {
+    match run(&rt) {
+        Ok(()) => ExitCode::SUCCESS,
+        Err(e) => {
+            let _ = eprintln!(rt; "sitesheet: site.map: {e}");
+            ExitCode::FAILURE
+        }
     }
-    done
 }
