@@ -1,6 +1,6 @@
 """Runs rulecheck and the second checker on random sites and rules, and tells where they differ.
 
-    python3 tests/model/compare.py target/bin/rulecheck [SEED] [RUNS]
+    python3 tests/model/compare.py crates/rulecheck/out/rulecheck [SEED] [RUNS]
 """
 
 import os

@@ -34,7 +34,7 @@ stops p (x ∷ xs) h =
     let e : prefix_len p (x ∷ xs) ≡ suc (prefix_len p xs) = cond-true (p x) (1 + prefix_len p xs) 0 is ∙ omega arith in
     let short : prefix_len p xs < length xs = omega arith in
     ap (λ n. p (get_or (x ∷ xs) n 0)) e ∙ stops p xs short)
-    (λ is-not. ap (λ n. p (get_or (x ∷ xs) n 0)) (cond-false (p x) (1 + prefix_len p xs) 0 is-not) ∙ is-not)
+    (λ is_not. ap (λ n. p (get_or (x ∷ xs) n 0)) (cond-false (p x) (1 + prefix_len p xs) 0 is_not) ∙ is_not)
     (cases_Bool (p x))
 
 before_dot : (s r : List ℕ) → prefix_len no_dot s ≡ length s → prefix_len no_dot (s ++ (46 ∷ r)) ≡ length s

@@ -34,7 +34,7 @@ pub first_passes : (p : ℕ → Bool) (b : ℕ) (bs : List ℕ) → prefix_len p
 first_passes p b bs e =
     ⊎_elim
     (λ is. (is, omega (arith, sym (cond-true (p b) (1 + prefix_len p bs) 0 is) ∙ e)))
-    (λ is-not. absurd (omega (arith, sym (cond-false (p b) (1 + prefix_len p bs) 0 is-not) ∙ e)))
+    (λ is_not. absurd (omega (arith, sym (cond-false (p b) (1 + prefix_len p bs) 0 is_not) ∙ e)))
     (cases_Bool (p b))
 
 all_digits : (t : List ℕ) → prefix_len digit t ≡ length t → (i : ℕ) → i < length t → digit (get_or t i 0) ≡ true

@@ -18,7 +18,7 @@ use Rattle.rules.specs.Grammar.{SignNext, ActionAt, permit, deny, priority, Clos
 use Rattle.sections.specs.Meeting.{read_section, onward}
 use Rattle.words.specs.Tests.{is_sign, is_named}
 use Rattle.words.specs.Writing.{Token, name, spelling, Stands, Next, kind}
-use Rattle.words.specs.Writing.{sign as signToken}
+use Rattle.words.specs.Writing.{sign as sign_token}
 use Rattle.rules.proofs.Courses.{onward_ok, which, ok_same, by, kept_through}
 use Rattle.sections.proofs.Folds.{Sofar, ended}
 use Rattle.words.proofs.Telling.{as_sign, as_name}
@@ -67,7 +67,7 @@ module _ (text : List ℕ) (a : ℕ) where
   keeps : (stage : Stage) (c : Action) (q at : ℕ) (t : Token) (from to : ℕ) (s : Actions)
       → So stage c q at → Stands text at t from to → meet_in stage c q (kind t) (spelling t) from ≡ Ok s → Inv s to
   keeps Open c q at t from to s h st e = elim (which (is_sign (kind t) sign.Open) _ _ s e) [
-    | inl x ↦ land to x.1 (from, subst (λ m. Stands text m (signToken sign.Open) from to) h (as_sign st sign.Open x.0))
+    | inl x ↦ land to x.1 (from, subst (λ m. Stands text m (sign_token sign.Open) from to) h (as_sign st sign.Open x.0))
     | inr x ↦ absurd (no_way x.1)
   ]
   keeps AtAction c q at t from to s h st e = elim (which (is_named (kind t)) _ _ s e) [

@@ -17,7 +17,7 @@ use Rattle.rules.specs.Grammar.{SignNext, Comparing, same, differs, at_least, at
 use Rattle.sections.specs.Meeting.{read_section, onward}
 use Rattle.words.specs.Tests.{is_sign, is_named, is_value}
 use Rattle.words.specs.Writing.{Token, name, spelling, Stands, Next, kind}
-use Rattle.words.specs.Writing.{sign as signToken}
+use Rattle.words.specs.Writing.{sign as sign_token}
 use Rattle.rules.proofs.Courses.{onward_ok, which, ok_same, by, kept_through}
 use Rattle.sections.proofs.Folds.{Sofar, ended}
 use Rattle.words.proofs.Telling.{as_sign, as_name, as_value}
@@ -95,7 +95,7 @@ module _ {C P : Type 0} (k : Sense C P) (text : List ℕ) (a : ℕ) where
   keeps : (stage : Stage) (n : ℕ) (v : List ℕ) (q : ℕ) (r : Relation) (c : C) (at : ℕ) (t : Token) (from to : ℕ) (s : Conditions C)
       → So stage n v r c at → Stands text at t from to → meet_in k.taken stage n v q r c (kind t) (spelling t) from ≡ Ok s → Inv s to
   keeps Open n v q r c at t from to s h st e = elim (which (is_sign (kind t) sign.Open) _ _ s e) [
-    | inl x ↦ land to x.1 ((from, subst (λ m. Stands text m (signToken sign.Open) from to) h.0 (as_sign st sign.Open x.0)), h.1, h.2)
+    | inl x ↦ land to x.1 ((from, subst (λ m. Stands text m (sign_token sign.Open) from to) h.0 (as_sign st sign.Open x.0)), h.1, h.2)
     | inr x ↦ absurd (no_way x.1)
   ]
   keeps First n v q r c at t from to s h st e = elim (which (is_sign (kind t) sign.Star) _ _ s e) [
@@ -129,7 +129,7 @@ module _ {C P : Type 0} (k : Sense C P) (text : List ℕ) (a : ℕ) where
     ]
   ]
     where
-      signs : (g : Sign) (d : Relation) → Comparing g d → Stands text at (signToken g) from to → Compared n v d c to
+      signs : (g : Sign) (d : Relation) → Comparing g d → Stands text at (sign_token g) from to → Compared n v d c to
       signs g d cm x = record { middle = at; by_sign = g; worded = h; compares = (from, x); related = cm }
   keeps AtValue n v q r c at t from to s h st e = elim (which (is_value (kind t)) _ _ s e) [
     | inl x ↦

@@ -16,7 +16,7 @@ use Rattle.sections.specs.Meeting.{read_section, onward}
 use Rattle.words.specs.Tests.{is_sign, is_named}
 use Rattle.sections.specs.Routes.{Paths, paths, kept, added, added_node, numbered, meet_in, no_paths, path_section, paths_done}
 use Rattle.words.specs.Writing.{Token, spelling, Stands, kind}
-use Rattle.words.specs.Writing.{sign as signToken}
+use Rattle.words.specs.Writing.{sign as sign_token}
 use Rattle.rules.proofs.Courses.{onward_ok, which, ok_same, by, kept_through}
 use Rattle.sections.proofs.Folds.{Sofar, ended}
 use Rattle.words.proofs.Telling.{as_sign, as_name}
@@ -74,14 +74,14 @@ module _ (text : List ℕ) (nodes : List (List ℕ)) where
       pub outer : ℕ
       pub inner : ℕ
       pub before : Before ps gs outer
-      pub opens : Stands text outer (signToken sign.Less) g inner
+      pub opens : Stands text outer (sign_token sign.Less) g inner
       pub filling : Filling inner is at
 
     record Filled (ps : List (List Item)) (gs : List ℕ) (is : List Item) (g at : ℕ) : Type 0 where
       pub outer : ℕ
       pub inner : ℕ
       pub before : Before ps gs outer
-      pub opens : Stands text outer (signToken sign.Less) g inner
+      pub opens : Stands text outer (sign_token sign.Less) g inner
       pub items : ItemsAt text nodes inner is at
 
     record Empty (ps : List (List Item)) (gs : List ℕ) (is : List Item) : Type 0 where
@@ -93,7 +93,7 @@ module _ (text : List ℕ) (nodes : List (List ℕ)) where
       pub inner : ℕ
       pub place : ℕ
       pub opens : SignNext text a sign.Open inner
-      pub star : Stands text inner (signToken sign.Star) place at
+      pub star : Stands text inner (sign_token sign.Star) place at
       pub patterns : ps ≡ (StarItem ∷ []) ∷ []
       pub places : gs ≡ place ∷ []
 
@@ -131,7 +131,7 @@ module _ (text : List ℕ) (nodes : List (List ℕ)) where
     keeps : (stage : Stage) (ps : List (List Item)) (gs : List ℕ) (is : List Item) (g at : ℕ) (t : Token) (from to : ℕ) (s : Paths)
         → So stage ps gs is g at → Stands text at t from to → meet_in nodes stage ps gs is g (kind t) (spelling t) from ≡ Ok s → Inv s to
     keeps Open ps gs is g at t from to s h st e = elim (which (is_sign (kind t) sign.Open) _ _ s e) [
-      | inl x ↦ land to x.1 ((from, subst (λ n. Stands text n (signToken sign.Open) from to) h.0 (as_sign st sign.Open x.0)), h.1)
+      | inl x ↦ land to x.1 ((from, subst (λ n. Stands text n (sign_token sign.Open) from to) h.0 (as_sign st sign.Open x.0)), h.1)
       | inr x ↦ absurd (no_way x.1)
     ]
     keeps First ps gs is g at t from to s h st e = elim (which (is_sign (kind t) sign.Star) _ _ s e) [
@@ -153,7 +153,7 @@ module _ (text : List ℕ) (nodes : List (List ℕ)) where
       ]
     ]
       where
-        entering : Empty ps gs is → SignNext text a sign.Open at → Stands text at (signToken sign.Less) from to → Entering ps gs is from to
+        entering : Empty ps gs is → SignNext text a sign.Open at → Stands text at (sign_token sign.Less) from to → Entering ps gs is from to
         entering em o l = record {
           outer = at;
           inner = to;

@@ -18,7 +18,7 @@ use Rattle.sections.specs.Meeting.{read_section, onward}
 use Rattle.words.specs.Tests.{is_sign, is_named}
 use Rattle.sections.specs.Targets.{Targets, target, added_class, numbered, meet_in, no_target, target_section, target_done}
 use Rattle.words.specs.Writing.{Token, name, spelling, Stands, Next, kind}
-use Rattle.words.specs.Writing.{sign as signToken}
+use Rattle.words.specs.Writing.{sign as sign_token}
 use Rattle.rules.proofs.Courses.{onward_ok, which, ok_same, by, kept_through}
 use Rattle.sections.proofs.Folds.{Sofar, ended}
 use Rattle.words.proofs.Telling.{as_sign, as_name}
@@ -88,7 +88,7 @@ module _ (text : List ℕ) (known : List (List ℕ)) (a : ℕ) where
   keeps : (stage : Stage) (c : Scope) (ns : List ℕ) (at : ℕ) (t : Token) (from to : ℕ) (s : Targets)
       → So stage c ns at → Stands text at t from to → meet_in known stage c ns (kind t) (spelling t) from ≡ Ok s → Inv s to
   keeps Open c ns at t from to s h st e = elim (which (is_sign (kind t) sign.Open) _ _ s e) [
-    | inl x ↦ land to x.1 ((from, subst (λ n. Stands text n (signToken sign.Open) from to) h.0 (as_sign st sign.Open x.0)), h.1)
+    | inl x ↦ land to x.1 ((from, subst (λ n. Stands text n (sign_token sign.Open) from to) h.0 (as_sign st sign.Open x.0)), h.1)
     | inr x ↦ absurd (no_way x.1)
   ]
   keeps First c ns at t from to s h st e = elim (which (is_sign (kind t) sign.Star) _ _ s e) [
@@ -112,7 +112,7 @@ module _ (text : List ℕ) (known : List (List ℕ)) (a : ℕ) where
     ]
   ]
     where
-      scope : (g : Sign) (d : Scope) → Scoping g d → Stands text at (signToken g) from to → Listing d to
+      scope : (g : Sign) (d : Scope) → Scoping g d → Stands text at (sign_token g) from to → Listing d to
       scope g d sc x = record { by_sign = g; inner = h.0.0; after_word = at; opens = h.0.1; word = h.0.2; scoped = (from, x); scoping = sc }
   keeps AtList c ns at t from to s h st e = elim (which (is_sign (kind t) sign.Open) _ _ s e) [
     | inl x ↦ land to x.1 (subst (λ z. Before c z to) (sym h.1) (first h.0 (from, as_sign st sign.Open x.0)))

@@ -21,11 +21,11 @@ use Rattle.sections.specs.declared.action.Action.TheVariants.{Permit, Deny, Prio
 use Rattle.words.specs.declared.signs.Sign.{Sign}
 use Rattle.words.specs.declared.signs.Sign.TheVariants as sign
 use Rattle.rules.specs.Rules.{Ruling, ports_for, start_of}
-use Rattle.words.specs.Writing.{name, value, sign as signToken, Stands, Next}
+use Rattle.words.specs.Writing.{name, value, sign as sign_token, Stands, Next}
 
 -- a certain sign, wherever it starts
 abbrev pub SignNext : List ℕ → ℕ → Sign → ℕ → Type 0
-SignNext text at s to = Next text at (signToken s) to
+SignNext text at s to = Next text at (sign_token s) to
 
 -- an item: a star, or the name of a node
 pub data ItemAt (text : List ℕ) (nodes : List (List ℕ)) (at : ℕ) : Item → ℕ → Type 0 where
@@ -41,7 +41,7 @@ pub data ItemsAt (text : List ℕ) (nodes : List (List ℕ)) (at : ℕ) : List I
 pub record PatternAt (text : List ℕ) (nodes : List (List ℕ)) (at : ℕ) (is : List Item) (place to : ℕ) : Type 0 where
   pub inner : ℕ
   pub last : ℕ
-  pub opens : Stands text at (signToken sign.Less) place inner
+  pub opens : Stands text at (sign_token sign.Less) place inner
   pub items : ItemsAt text nodes inner is last
   pub closes : SignNext text last sign.Greater to
 
@@ -52,7 +52,7 @@ pub data PatternsAt (text : List ℕ) (nodes : List (List ℕ)) (at : ℕ) : Lis
 
 -- the paths: `{*}`, the pattern of one star, or patterns in braces
 pub data PathsAt (text : List ℕ) (nodes : List (List ℕ)) (at : ℕ) : List (List Item) → List ℕ → ℕ → Type 0 where
-  any : {p q place to : ℕ} → SignNext text at sign.Open p → Stands text p (signToken sign.Star) place q → SignNext text q sign.Close to → PathsAt text nodes at ((Star ∷ []) ∷ []) (place ∷ []) to
+  any : {p q place to : ℕ} → SignNext text at sign.Open p → Stands text p (sign_token sign.Star) place q → SignNext text q sign.Close to → PathsAt text nodes at ((Star ∷ []) ∷ []) (place ∷ []) to
   some : {ps : List (List Item)} {gs : List ℕ} {p to : ℕ} → PatternsAt text nodes at ps gs p → SignNext text p sign.Close to → PathsAt text nodes at ps gs to
 
 -- the classes that a sign before their list gives: `==` and `=` those in it, `!=` those not in it
@@ -125,7 +125,7 @@ pub record ClosingAt (text : List ℕ) (at : ℕ) (a : Action) (semicolon to : �
   pub opens : SignNext text at sign.Open inner
   pub action : ActionAt text inner a last
   pub closes : SignNext text last sign.Close outer
-  pub ends : Stands text outer (signToken sign.Semicolon) semicolon to
+  pub ends : Stands text outer (sign_token sign.Semicolon) semicolon to
 
 -- the id with its place, and a declared user with the user's rank
 pub record HeadAt (s : Plan) (text : List ℕ) (at : ℕ) (id : List ℕ) (place user rank to : ℕ) : Type 0 where

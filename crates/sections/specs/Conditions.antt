@@ -46,7 +46,7 @@ offered_to doubled word value = refuse cause.DoubledBound value
 
 -- a value has at most sixteen bytes
 abbrev pub offered : {C : Type 0} → (C → List ℕ → Relation → List ℕ → Taking C) → C → List ℕ → Relation → List ℕ → ℕ → ℕ → Result C Refusal
-offered taken c word sign value at-word at_value = cond (nat_lt 16 (length value)) (refuse cause.OverLimit at_value) (offered_to (taken c word sign value) at-word at_value)
+offered taken c word sign value at_word at_value = cond (nat_lt 16 (length value)) (refuse cause.OverLimit at_value) (offered_to (taken c word sign value) at_word at_value)
 
 -- one comparison more is begun, of at most eight, by its word
 abbrev pub begun : ℕ → List ℕ → ℕ → Result ℕ Refusal

@@ -1,11 +1,11 @@
 -- What a word of a rule's text is: a name, a sign, or, where one is due, a value; blanks stand freely before it.
---   blank, value_byte      the bytes that part words, and the bytes of a value (those of a name are `name_byte`)
---   sign_of                the sign that two bytes begin
+--   blank, value_byte       the bytes that part words, and the bytes of a value (those of a name are `name_byte`)
+--   sign_of                 the sign that two bytes begin
 --   word_of, value_of       the word at the front of bytes, where no blank stands
 --   word_at, value_at       the same past the blanks of a part of the text
 --   word_from, value_from   the same from a place of the text on; `due_from` is the one that is due
---   bytes_of, Inside       the bytes of a word that was found, and that it lies in the text
---   any_more, More         whether a word may still come
+--   bytes_of, Inside        the bytes of a word that was found, and that it lies in the text
+--   any_more, More          whether a word may still come
 use Rattle.std.specs.Prelude.{◌≡◌, ℕ, ◌+◌, ◌-◌, ◌<◌, ◌≤◌, min, Bool, true, false, cond, ◌||◌, List, length, take, drop, Some, None, Ok, Err, Option, Result, ◌==◌, nat_lt, slice_index}
 use Rattle.std.specs.List.{prefix_len}
 use Rattle.fixed.specs.Spelling.{name_byte}

@@ -3,7 +3,7 @@
 --   Sound, valued       of which bytes it may be, and where it may stand
 --   Longest, Stands     no longer word stands there; a word stands in a text
 --   WordAt, NoWordAt    what the reader tells: the word that stands there, or why there is none
---   ReadAsItStands   the law of the word readers
+--   ReadAsItStands      the law of the word readers
 use Rattle.std.specs.Prelude.{◌≡◌, ℕ, ◌+◌, ◌<◌, ◌≤◌, Bool, true, false, ◌↔◌, List, [], ◌∷◌, ◌++◌, length, drop, Ok, Err, Result}
 use Rattle.fixed.specs.Spelling.{name_byte}
 use Rattle.site.specs.declared.refusals.Cause.{Cause}
