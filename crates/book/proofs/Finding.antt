@@ -58,11 +58,12 @@ module _ {C : Type 0} where
 
   -- the same of the rules at the front of some places
   pub located : (slots : List (Rule C)) (vs : List (Ruling C)) (n : ℕ) (id : List ℕ) (r : Option ℕ) → map rule_of (take n slots) ≡ vs → n ≡ length vs → n ≤ length slots
-      → MatchOption r (Known id (map rule_of (take n slots)) → ⊥) (λ i. (i < length (take n slots)) × Known id (map rule_of (take n slots)) × (map rule_of (remove (take n slots) i) ≡ without id (map rule_of (take n slots))))
+      → (front : List (Rule C)) → front ≡ take n slots
+      → MatchOption r (Known id (map rule_of front) → ⊥) (λ i. (i < length front) × Known id (map rule_of front) × (map rule_of (remove front i) ≡ without id (map rule_of front)))
       → MatchOption r (Known id vs → ⊥) (λ i. (i < length vs) × Known id vs × (map rule_of (remove (take (length vs) slots) i) ≡ without id vs))
-  located slots vs n id None e m le f = subst (λ z. Known id z → ⊥) e f
-  located slots vs n id (Some i) e m le (lt, kn, w) = (
-    omega (arith, front_len slots n le),
-    subst (λ z. Known id z) e kn,
-    ap (λ z. map rule_of (remove (take z slots) i)) (sym m) ∙ w ∙ ap (λ z. without id z) e,
+  located slots vs n id None e m le front is f = subst (λ z. Known id z → ⊥) (ap (map rule_of) is ∙ e) f
+  located slots vs n id (Some i) e m le front is (lt, kn, w) = (
+    omega (arith, front_len slots n le, ap length is),
+    subst (λ z. Known id z) (ap (map rule_of) is ∙ e) kn,
+    ap (λ z. map rule_of (remove (take z slots) i)) (sym m) ∙ ap (λ z. map rule_of (remove z i)) (sym is) ∙ w ∙ ap (λ z. without id z) (ap (map rule_of) is ∙ e),
   )
