@@ -26,6 +26,8 @@ APART = {
     # a tactic's word
     "ground": "on_ground",
 }
+# an alias and variables, which no declaration shows
+LOCAL = {"signToken": "sign_token", "at-word": "at_word", "is-not": "is_not"}
 # list functions of the library, before whose name a dash stays
 HEADS = {"length", "map", "take", "drop", "append", "filter", "reverse"}
 NAME = r"[^\s(){}\[\]⟨⟩,;:.λ·→×↦|`]+"
@@ -87,6 +89,7 @@ def respelled(text, names):
 def main():
     own = declared()
     names = {n: turned(n) for n in own if turned(n) != n}
+    names |= LOCAL
     clash = sorted((n, t) for n, t in names.items() if t in own or sum(u == t for u in names.values()) > 1)
     for n, t in clash:
         print(f"look: {n} becomes {t}, which stands already")
