@@ -1,17 +1,20 @@
--- Names numbered from 0 in the order in which they were added.
+-- What goes by a name, numbered from 0 in the order in which it was added.
 use Rattle.std.specs.Prelude.{◌≡◌, ℕ, suc, ◌<◌, Bool, cond, List, [], ◌∷◌, ◌++◌, map, length, get_or, is_some, Some, None, Ok, Err, Option, Result, ◌≢◌, nat_lt, slice_index_or}
 use Rattle.std.specs.Option.{option_map}
 use Rattle.std.specs.Str.{bytes_eq}
 use Rattle.fixed.specs.declared.roster.NameFault.{NameFault}
 use Rattle.fixed.specs.declared.roster.NameFault.TheVariants.{NotAName, Repeated, Full}
-use Rattle.fixed.specs.declared.roster.NameTable.{NameTable}
+use Rattle.fixed.specs.declared.roster.Roster.{Roster}
 use Rattle.fixed.specs.Items.{items}
-use Rattle.fixed.specs.Names.{spelling}
 use Rattle.fixed.specs.Spelling.{is_name}
 
--- the names of a table, each as its bytes
-abbrev pub names : {N : ℕ} → NameTable N → List (List ℕ)
-names t = map spelling (items t.list)
+-- what a roster holds, first to last
+abbrev pub held : {T : Type 0} {N : ℕ} → Roster T N → List T
+held t = items t.list
+
+-- the names that it is called by, each as its bytes
+abbrev pub names : {T : Type 0} {N : ℕ} → (T → List ℕ) → Roster T N → List (List ℕ)
+names called t = map called (held t)
 
 -- the least number under which n stands
 abbrev pub number_of : List ℕ → List (List ℕ) → Option ℕ

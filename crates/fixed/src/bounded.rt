@@ -5,6 +5,7 @@ mod ops;
 
 use std::alloc::AllocError;
 
+// Kept in place, since nothing here may take memory from a heap.
 pub struct Table<T, const N: usize> {
     slots: [T; N],
     len: usize,
@@ -12,6 +13,11 @@ pub struct Table<T, const N: usize> {
     ghost whole: { length slots ≡ N },
 }
 
+// There is no room for one item more.
+#[derive(Clone, Copy, Debug, PartialEq)]
+pub struct Full;
+
+// By hand, since over a ghost field `Clone` is not derived for a type with parameters.
 impl<T: Copy, const N: usize> Clone for Table<T, N> {
     ghost is_clone = { λ x y. y ≡ x };
 

@@ -5,6 +5,6 @@ mod bounded;
 mod naming;
 mod roster;
 
-pub use bounded::Table;
+pub use bounded::{Full, Table};
 pub use naming::{Name, is_name, is_name_byte, name_run};
-pub use roster::{NameFault, NameTable};
+pub use roster::{NameFault, NameTable, Named, Roster};

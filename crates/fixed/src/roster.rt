@@ -1,88 +1,138 @@
-// A table of names, numbered from 0 in the order in which they were added.
-ghost use Rattle.std.specs.Prelude.{◌≡◌, ℕ, ◌≤◌, Bool, true, false, [], map, length, Ok, Err, MatchOption, MatchResult, OnErr};
+// What goes by a name, numbered from 0 in the order in which it was added.
+ghost use Rattle.std.specs.Prelude.{◌≡◌, ℕ, ◌<◌, ◌≤◌, List, [], ◌∷◌, ◌++◌, map, length, Ok, Err, MatchOption, MatchResult, OnErr};
 ghost use Rattle.std.specs.List.{slice_get};
-ghost use Rattle.std.specs.Option.{option_map};
 ghost use Rattle.fixed.specs.Names.{spelling};
-ghost use Rattle.fixed.specs.Rosters.{names, number_of, known, enrol, First, Absent};
+ghost use Rattle.fixed.specs.Rosters.{held, names, number_of, enrol, First, Absent};
 
-use crate::bounded::Table;
+use crate::bounded::{Full, Table};
 use crate::naming;
 use crate::naming::Name;
 
-#[derive(Clone, Copy)]
-pub struct NameTable<const N: usize> {
-    list: Table<Name, N>,
+// What goes by a name.
+pub trait Named: Copy {
+    ghost called: { Self → List ℕ };
+
+    // What fills the places of a roster that hold nothing yet.
+    fn unused() -> Self;
+
+    fn name(&self) -> &Name
+        ensures { spelling result.now ≡ called self.now };
 }
 
-// Why a name cannot be added; where two causes apply, the earlier one counts.
+impl Named for Name {
+    ghost called = { spelling };
+
+    fn unused() -> Name {
+        naming::unused()
+    }
+
+    fn name(&self) -> &Name {
+        self
+    }
+}
+
 #[derive(Clone, Copy)]
+pub struct Roster<T: Copy, const N: usize> {
+    list: Table<T, N>,
+}
+
+// A table of names alone.
+pub type NameTable<const N: usize> = Roster<Name, N>;
+
+// Why something cannot be added; where two causes apply, the earlier one counts.
+#[derive(Clone, Copy, Debug, PartialEq)]
 pub enum NameFault {
     NotAName,
     Repeated,
     Full,
 }
 
-impl<const N: usize> NameTable<N> {
+impl From<Full> for NameFault {
+    ghost use Rattle.fixed.specs.declared.roster.NameFault.TheVariants.{Full};
+
+    ghost from_gives = { λ _ e. e ≡ Full };
+
+    fn from(_full: Full) -> NameFault {
+        NameFault::Full
+    }
+}
+
+impl<T: Named, const N: usize> Roster<T, N> {
     pub fn new() -> Self
-        ensures { names result ≡ [] }
+        ensures { held result ≡ [] }
     {
-        NameTable {
-            list: Table::new(naming::unused()),
+        Roster {
+            list: Table::new(T::unused()),
         }
     }
 
     pub fn len(&self) -> usize
-        ensures is { result ≡ length (names self.now) }
+        ensures is { result ≡ length (held self.now) }
         ensures within { result ≤ N }
     {
         self.list.len()
     }
 
-    // The names, first to last.
-    pub fn as_slice(&self) -> &[Name]
-        ensures { map spelling result.now ≡ names self.now }
+    // First to last.
+    pub fn as_slice(&self) -> &[T]
+        ensures { result.now ≡ held self.now }
     {
         self.list.as_slice()
     }
 
-    // The name under a number.
-    pub fn name(&self, number: usize) -> Option<Name>
-        ensures { option_map spelling result ≡ slice_get (names self.now) number }
+    // What stands under a number.
+    pub fn get(&self, number: usize) -> Option<T>
+        ensures { result ≡ slice_get (held self.now) number }
     {
         self.list.get(number)
     }
 
     // The least number under which a name stands.
     pub fn number(&self, name: &[u8]) -> Option<usize>
-        ensures is { result ≡ number_of name.now (names self.now) }
-        ensures least { MatchOption result (Absent name.now (names self.now)) (First name.now (names self.now)) }
+        ensures is { result ≡ number_of name.now (names T.called self.now) }
+        ensures least { MatchOption result (Absent name.now (names T.called self.now)) (First name.now (names T.called self.now)) }
     {
-        let held = self.as_slice();
-        for (i, each) in held.iter().enumerate() {
-            if each.as_bytes() == name {
-                return Some(i);
-            }
-        }
-        None
+        self.as_slice()
+            .iter()
+            .position(|each| each.name().as_bytes() == name)
     }
 
-    // One name more, under the next number; where it is refused, the table stays as it is.
-    pub fn add(&mut self, name: &[u8]) -> Result<(), NameFault>
-        ensures added { MatchResult result
-            (λ _. enrol N (names self.old) name.now ≡ Ok (names self.new))
-            (λ e. enrol N (names self.old) name.now ≡ Err e) }
-        ensures kept { OnErr result (self.new ≡ self.old) }
+    // The name that bytes spell, where one more can be added under it.
+    pub fn vacancy(&self, name: &[u8]) -> Result<Name, NameFault>
+        ensures { MatchResult result
+            (λ n. (spelling n ≡ name.now) × (enrol N (names T.called self.now) name.now ≡ Ok (names T.called self.now ++ name.now ∷ [])))
+            (λ e. enrol N (names T.called self.now) name.now ≡ Err e) }
     {
-        if !naming::is_name(name) {
-            return Err(NameFault::NotAName);
-        }
+        let spelled = Name::from_bytes(name).ok_or(NameFault::NotAName)?;
         if self.number(name).is_some() {
             return Err(NameFault::Repeated);
         }
         if self.len() >= N {
             return Err(NameFault::Full);
         }
-        self.list.push(naming::spelled(name));
+        Ok(spelled)
+    }
+
+    // One more, under the next number; nothing is altered where there is no room.
+    pub fn push(&mut self, item: T) -> Result<(), Full>
+        ensures { MatchResult result
+            (λ _. (length (held self.old) < N) × (held self.new ≡ held self.old ++ item ∷ []))
+            (λ _. (N ≤ length (held self.old)) × (self.new ≡ self.old)) }
+    {
+        self.list.push(item)
+    }
+}
+
+impl<const N: usize> Roster<Name, N> {
+    // One name more, under the next number; where it is refused, the table stays as it is.
+    pub fn add(&mut self, name: &[u8]) -> Result<(), NameFault>
+        ensures added { MatchResult result
+            (λ _. enrol N (names spelling self.old) name.now ≡ Ok (names spelling self.new))
+            (λ e. enrol N (names spelling self.old) name.now ≡ Err e) }
+        ensures kept { OnErr result (self.new ≡ self.old) }
+    {
+        let name = self.vacancy(name)?;
+        self.push(name)?;
         Ok(())
     }
 }

@@ -1,5 +1,5 @@
 -- A field is declared exactly when it can be.
-use Rattle.std.proofs.Common.{◌≡◌, ℕ, ◌<◌, true, false, eqb, ltb, List, [], ◌∷◌, ◌++◌, length, get_or, is_some, Some, None, Ok, Err, Option, Result, sym, refl, ap, ◌∙◌, subst, arith}
+use Rattle.std.proofs.Common.{◌≡◌, ℕ, ◌<◌, true, false, eqb, ltb, List, [], ◌∷◌, ◌++◌, length, get_or, drop, is_some, Some, None, Ok, Err, Option, Result, sym, refl, ap, ◌∙◌, subst, arith}
 use Rattle.std.proofs.lemmas.Bool.{lt-ltb, ltb-true, eqb-true, ne_eqb, eqb-false, and_from, and_parts, not-true, not_from_false, cond_both}
 use Rattle.fixed.specs.declared.roster.NameFault.{NameFault}
 use Rattle.fixed.specs.Rosters.{enrol}
@@ -9,8 +9,7 @@ use Rattle.site.specs.declared.parts.Reading.TheVariants.{Implied, Spoken}
 use Rattle.site.specs.declared.refusals.Cause.{Cause}
 use Rattle.site.specs.Links.{joined}
 use Rattle.site.specs.Plans.{Plan}
-use Rattle.site.specs.Fields.{Field, field, with_nodes, with_classes, with_users, with_link, with_reading, adding, seating, setting, ranking, fitting, reading_of, declare, declare_node, declare_link, declare_class, declare_user, declare_reading, code, New, Adds, node, link, class, user, reading}
-use Rattle.site.proofs.Seating.{user_added}
+use Rattle.site.specs.Fields.{Field, field, with_nodes, with_classes, with_users, with_link, with_reading, adding, seating, setting, ranking, enrol_user, fitting, reading_of, declare, declare_node, declare_link, declare_class, declare_user, declare_reading, code, New, Adds, node, link, class, user, reading}
 
 enrols_new : (room : ℕ) (xs : List (List ℕ)) (n : List ℕ) → New n xs → length xs < room → enrol room xs n ≡ Ok (xs ++ n ∷ [])
 enrols_new room xs n new lt = enrols room xs n new.0 (absent_known n xs new.1) lt
@@ -22,6 +21,9 @@ fits s m n lm ln ne un =
 sets : (s : Plan) (r : Reading) → setting s (reading_of (code r ∷ [])) ≡ Ok (with_reading s r)
 sets s Implied = refl
 sets s Spoken = refl
+
+user_added : (us : List (List ℕ)) (rs b : List ℕ) (xs : List (List ℕ)) → enrol 16 us (drop 1 b) ≡ Ok xs → (get_or b 0 0 ≡ 0 → ⊥) → enrol_user us rs b ≡ Ok (xs, rs ++ get_or b 0 0 ∷ [])
+user_added us rs b xs e z = let t = ne_eqb (get_or b 0 0) 0 z in ap (ranking rs (get_or b 0 0)) e ∙ (rw t)
 
 pub adds_declare : {s : Plan} {f : Field} {t : Plan} → Adds s f t → declare s f ≡ Ok t
 adds_declare (node s n new lt) = ap (adding (with_nodes s)) (enrols_new 48 s.nodes n new lt)

@@ -4,7 +4,8 @@ use Rattle.std.proofs.lemmas.List.{length_push, get_or_push, get_or_append_left}
 use Rattle.std.proofs.lemmas.Bool.{and_parts, ltb-true, or_parts, cases_eq, both_ways}
 use Rattle.fixed.specs.Spelling.{is_name}
 use Rattle.site.specs.declared.parts.Link.{Link}
-use Rattle.site.specs.Links.{nowhere, any_link, joins}
+use Rattle.std.specs.List.{list_any}
+use Rattle.site.specs.Links.{nowhere, joins}
 use Rattle.site.specs.Plans.{Plan}
 use Rattle.site.specs.Fields.{Field, New, Adds, node, link, class, user, reading}
 use Rattle.site.specs.Maps.{blank, Declares, none, next, Says}
@@ -44,7 +45,7 @@ table_push room xs n t new lt = record {
 wider : (n m : ℕ) (ls : List Link) → n ≤ m → TwoEnded n ls → TwoEnded m ls
 wider n m ls le t k lt = let e = t k lt in (omega (arith, e.0), omega (arith, e.1), e.2)
 
-any_false : (test : Link → Bool) (ls : List Link) (i : ℕ) → any_link test ls ≡ false → i < length ls → test (get_or ls i nowhere) ≡ false
+any_false : (test : Link → Bool) (ls : List Link) (i : ℕ) → list_any test ls ≡ false → i < length ls → test (get_or ls i nowhere) ≡ false
 any_false test [] i e lt = absurd (omega arith)
 any_false test (l ∷ ls) zero e lt = (or_parts (test l) _ e).0
 any_false test (l ∷ ls) (suc i) e lt = any_false test ls i (or_parts (test l) _ e).1 (omega arith)

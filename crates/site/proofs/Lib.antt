@@ -1,5 +1,3 @@
-pub mod Joining
-pub mod Seating
 pub mod Sealing
 pub mod Folds
 pub mod Adding

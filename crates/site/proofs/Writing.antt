@@ -5,7 +5,8 @@ use Rattle.std.proofs.lemmas.Bool.{and_from, or_from, lt-ltb}
 use Rattle.fixed.specs.Spelling.{is_name}
 use Rattle.site.specs.declared.parts.Link.{Link}
 use Rattle.site.specs.declared.parts.Reading.{Reading}
-use Rattle.site.specs.Links.{nowhere, any_link, joins, joined}
+use Rattle.std.specs.List.{list_any}
+use Rattle.site.specs.Links.{nowhere, joins, joined}
 use Rattle.site.specs.Plans.{Plan}
 use Rattle.site.specs.Fields.{Field, field, with_nodes, with_classes, with_users, New, Adds, node, link, class, user, reading}
 use Rattle.site.specs.Maps.{blank, sealable, read_map, Declares, none, next, link_field, user_fields, reading_fields, fields_of, written}
@@ -48,9 +49,9 @@ false_since : (b : Bool) → (b ≡ true → ⊥) → b ≡ false
 false_since true h = absurd (h refl)
 false_since false h = refl
 
-any_none : (test : Link → Bool) (ls : List Link) → ((i : ℕ) → i < length ls → test (get_or ls i nowhere) ≡ true → ⊥) → any_link test ls ≡ false
+any_none : (test : Link → Bool) (ls : List Link) → ((i : ℕ) → i < length ls → test (get_or ls i nowhere) ≡ true → ⊥) → list_any test ls ≡ false
 any_none test [] h = refl
-any_none test (l ∷ ls) h = or_from (test l) (any_link test ls) (false_since (test l) (h 0 (omega arith))) (any_none test ls (λ i lt. h (suc i) (omega arith)))
+any_none test (l ∷ ls) h = or_from (test l) (list_any test ls) (false_since (test l) (h 0 (omega arith))) (any_none test ls (λ i lt. h (suc i) (omega arith)))
 
 links_in : (s : Plan) (xs more : List Link) → TwoEnded (length s.nodes) (xs ++ more) → Unrepeated (xs ++ more) → length (xs ++ more) ≤ 64 → Declares (with_links s xs) (map link_field more) (with_links s (xs ++ more))
 links_in s xs [] two un few = subst (λ (l : List Link). Declares (with_links s xs) [] (with_links s l)) (sym (append-nil xs)) (none (with_links s xs))

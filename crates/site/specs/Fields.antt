@@ -3,7 +3,7 @@
 -- Plan: what a map says so far. Field: a tag and its bytes.
 -- declare: the plan after a field, or the cause that refuses it.
 -- Adds: the same as a relation, without the causes.
-use Rattle.std.specs.Prelude.{◌≡◌, ℕ, ◌<◌, Bool, true, false, cond, not, ◌&&◌, List, [], ◌∷◌, ◌++◌, length, drop, is_some, Some, None, Ok, Err, Option, Result, ◌==◌, ◌≢◌, nat_lt, slice_index}
+use Rattle.std.specs.Prelude.{◌≡◌, ℕ, ◌<◌, Bool, true, false, cond, not, ◌&&◌, List, [], ◌∷◌, ◌++◌, length, drop, is_some, Some, None, Ok, Err, Option, Result, ◌==◌, ◌≢◌, nat_lt, codes, slice_index}
 use Rattle.fixed.specs.declared.roster.NameFault.{NameFault}
 use Rattle.fixed.specs.Rosters.{enrol, Absent}
 use Rattle.fixed.specs.Spelling.{is_name}
@@ -77,12 +77,12 @@ seating s (Err e) = Err e
 abbrev pub declare_user : Plan → List ℕ → Result Plan Cause
 declare_user s b = seating s (enrol_user s.users s.ranks b)
 
--- the reading that one byte sets
+-- the reading that a byte sets
+abbrev pub coded : ℕ → Option Reading
+coded n = cond (n == 1) (Some Implied) (cond (n == 2) (Some Spoken) None)
+
 abbrev pub reading_of : List ℕ → Option Reading
-reading_of b =
-    cond (length b == 1)
-    (cond (slice_index b 0 == 1) (Some Implied) (cond (slice_index b 0 == 2) (Some Spoken) None))
-    None
+reading_of b = cond (length b == 1) (coded (slice_index b 0)) None
 
 abbrev pub setting : Plan → Option Reading → Result Plan Cause
 setting s (Some r) = Ok (with_reading s r)
@@ -100,6 +100,11 @@ declare s f =
     (cond (f.tag == 4) (declare_user s f.body)
     (cond (f.tag == 5) (declare_reading s f.body)
     (Err UnknownTag)))))
+
+-- what a reading is called
+abbrev pub word_of : Reading → List ℕ
+word_of Implied = codes "implied"
+word_of Spoken = codes "spoken"
 
 -- the byte that sets a reading
 abbrev pub code : Reading → ℕ

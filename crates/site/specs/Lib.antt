@@ -1,7 +1,9 @@
 pub mod Refusals
 pub mod Links
+pub mod Users
 pub mod Plans
 pub mod Fields
+pub mod Tags
 pub mod Maps
 pub mod Faults
 pub mod Promises

@@ -1,5 +1,6 @@
 -- Links between numbered nodes, and the ports at their ends.
-use Rattle.std.specs.Prelude.{ℕ, ◌+◌, Bool, false, cond, ◌&&◌, ◌||◌, List, [], ◌∷◌, ◌==◌}
+use Rattle.std.specs.Prelude.{ℕ, ◌+◌, Bool, cond, ◌&&◌, ◌||◌, List, [], ◌∷◌, ◌==◌}
+use Rattle.std.specs.List.{list_any}
 use Rattle.site.specs.declared.parts.Link.{Link}
 
 -- what stands past the end of a list of links
@@ -18,18 +19,13 @@ far_end l n = cond (l.a == n) l.b l.a
 abbrev pub joins : Link → ℕ → ℕ → Bool
 joins l m n = (l.a == m && l.b == n) || (l.a == n && l.b == m)
 
--- whether some link passes a test
-abbrev pub any_link : (Link → Bool) → List Link → Bool
-any_link test [] = false
-any_link test (l ∷ ls) = test l || any_link test ls
-
 -- whether some link joins two nodes
 abbrev pub joined : List Link → ℕ → ℕ → Bool
-joined ls m n = any_link (λ l. joins l m n) ls
+joined ls m n = list_any (λ l. joins l m n) ls
 
 -- whether a node has a link
 abbrev pub linked : List Link → ℕ → Bool
-linked ls n = any_link (λ l. ends l n) ls
+linked ls n = list_any (λ l. ends l n) ls
 
 -- the numbers, from i on, of the links of a node
 abbrev pub links_from : ℕ → List Link → ℕ → List ℕ

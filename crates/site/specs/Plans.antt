@@ -1,13 +1,15 @@
 -- What a map says: its plan. Nodes, links, classes and users are each numbered from 0 as declared.
-use Rattle.std.specs.Prelude.{ℕ, Bool, ◌&&◌, List, length, Option, nat_lt, slice_index_or}
+use Rattle.std.specs.Prelude.{ℕ, Bool, ◌&&◌, List, map, length, Option, nat_lt, slice_index_or}
 use Rattle.std.specs.Option.{unwrap_or}
 use Rattle.fixed.specs.Items.{items}
-use Rattle.fixed.specs.Rosters.{names}
+use Rattle.fixed.specs.Names.{spelling}
+use Rattle.fixed.specs.Rosters.{held, names}
 use Rattle.site.specs.declared.parts.Link.{Link}
 use Rattle.site.specs.declared.parts.Reading.{Reading}
 use Rattle.site.specs.declared.parts.Reading.TheVariants.{Implied}
 use Rattle.site.specs.declared.draft.Draft.{Draft}
 use Rattle.site.specs.Links.{nowhere, ends}
+use Rattle.site.specs.Users.{called, rank}
 
 -- names as their bytes; the rank of each user stands under the user's number
 pub record Plan : Type 0 where
@@ -21,11 +23,11 @@ pub record Plan : Type 0 where
 -- the plan of a map that is being declared
 abbrev pub plan_of : Draft → Plan
 plan_of d = record {
-  nodes = names d.nodes;
+  nodes = names spelling d.nodes;
   links = items d.links;
-  classes = names d.classes;
-  users = names d.users.roster;
-  ranks = items d.users.ranks;
+  classes = names spelling d.classes;
+  users = names called d.users;
+  ranks = map rank (held d.users);
   reading = d.reading;
 }
 

@@ -1,25 +1,16 @@
 // Declaring one field of a map.
-ghost use Rattle.std.specs.Prelude.{◌≡◌, Bool, length, Ok, Err, MatchResult, OnErr};
+ghost use Rattle.std.specs.Prelude.{◌≡◌, Bool, cond, length, Some, None, Ok, Err, MatchResult, OnErr, slice_index};
 ghost use Rattle.site.specs.Links.{joined};
 ghost use Rattle.site.specs.Plans.{plan_of};
-ghost use Rattle.site.specs.Fields.{field, declare, declare_link, declare_reading, fitting};
+ghost use Rattle.site.specs.Fields.{field, declare, declare_link, declare_user, declare_reading, fitting};
 ghost use Rattle.site.specs.Maps.{blank};
 
 use crate::draft::Draft;
 use crate::parts::{Link, Reading};
 use crate::refusals::Cause;
-use crate::users::UserTable;
-use fixed::{NameTable, Table};
-
-const NODE: u8 = 1;
-
-const LINK: u8 = 2;
-
-const CLASS: u8 = 3;
-
-const USER: u8 = 4;
-
-const READING: u8 = 5;
+use crate::tags::Tag;
+use crate::users::User;
+use fixed::{NameTable, Roster, Table};
 
 impl Draft {
     pub(crate) fn new() -> Draft
@@ -29,7 +20,7 @@ impl Draft {
             nodes: NameTable::new(),
             links: Table::new(Link { a: 0, b: 0 }),
             classes: NameTable::new(),
-            users: UserTable::new(),
+            users: Roster::new(),
             reading: None,
         }
     }
@@ -41,19 +32,12 @@ impl Draft {
             (λ e. declare (plan_of self.old) (field tag body.now) ≡ Err e) }
         ensures kept { OnErr result (self.new ≡ self.old) }
     {
-        match tag {
-            NODE => {
-                self.nodes.add(body)?;
-                Ok(())
-            }
-            LINK => self.declare_link(body),
-            CLASS => {
-                self.classes.add(body)?;
-                Ok(())
-            }
-            USER => self.users.add(body),
-            READING => self.declare_reading(body),
-            _ => Err(Cause::UnknownTag),
+        match Tag::try_from(tag)? {
+            Tag::Node => Ok(self.nodes.add(body)?),
+            Tag::Link => self.declare_link(body),
+            Tag::Class => Ok(self.classes.add(body)?),
+            Tag::User => self.declare_user(body),
+            Tag::Reading => self.declare_reading(body),
         }
     }
 
@@ -66,28 +50,42 @@ impl Draft {
         if self.links.len() >= 64 {
             return Err(Cause::TableFull);
         }
-        if !self.fits(body) {
-            return Err(Cause::BadLink);
-        }
-        let [a, b, ..] = body else {
-            return Err(Cause::BadLink);
-        };
-        self.links.push(Link { a: *a, b: *b });
+        let link = self.new_link(body).ok_or(Cause::BadLink)?;
+        self.links.push(link)?;
         Ok(())
     }
 
-    // Whether two bytes name two different declared nodes that no link joins yet.
-    fn fits(&self, body: &[u8]) -> bool
-        ensures { result ≡ fitting (plan_of self.now) body.now }
+    // The link that two bytes give, where they are two different declared nodes that no link joins yet.
+    fn new_link(&self, body: &[u8]) -> Option<Link>
+        ensures { result ≡ cond (fitting (plan_of self.now) body.now) (Some (record { a = slice_index body.now 0; b = slice_index body.now 1 })) None }
     {
         let [a, b] = body else {
-            return false;
+            return None;
         };
         let nodes = self.nodes.len();
-        (*a as usize) < nodes
-            && (*b as usize) < nodes
+        let is_new = usize::from(*a) < nodes
+            && usize::from(*b) < nodes
             && *a != *b
-            && !are_joined(self.links.as_slice(), *a, *b)
+            && !are_joined(self.links.as_slice(), *a, *b);
+        is_new.then_some(Link { a: *a, b: *b })
+    }
+
+    // One user more, given as a rank byte and then a name.
+    fn declare_user(&mut self, body: &[u8]) -> Result<(), Cause>
+        ensures declared { MatchResult result
+            (λ _. declare_user (plan_of self.old) body.now ≡ Ok (plan_of self.new))
+            (λ e. declare_user (plan_of self.old) body.now ≡ Err e) }
+        ensures kept { OnErr result (self.new ≡ self.old) }
+    {
+        let [rank, name @ ..] = body else {
+            return Err(Cause::NotAName);
+        };
+        let name = self.users.vacancy(name)?;
+        if *rank == 0 {
+            return Err(Cause::BadRankOrReading);
+        }
+        self.users.push(User { name, rank: *rank })?;
+        Ok(())
     }
 
     fn declare_reading(&mut self, body: &[u8]) -> Result<(), Cause>
@@ -99,12 +97,10 @@ impl Draft {
         if self.reading.is_some() {
             return Err(Cause::BadRankOrReading);
         }
-        let reading = match body {
-            [1] => Reading::Implied,
-            [2] => Reading::Spoken,
-            _ => return Err(Cause::BadRankOrReading),
+        let [code] = body else {
+            return Err(Cause::BadRankOrReading);
         };
-        self.reading = Some(reading);
+        self.reading = Some(Reading::try_from(*code)?);
         Ok(())
     }
 }
@@ -112,10 +108,5 @@ impl Draft {
 fn are_joined(links: &[Link], m: u8, n: u8) -> bool
     ensures { result ≡ joined links.now m n }
 {
-    for link in links {
-        if link.joins(m, n) {
-            return true;
-        }
-    }
-    false
+    links.iter().any(|link| link.joins(m, n))
 }

@@ -7,9 +7,11 @@ mod parts;
 mod reader;
 mod refusals;
 mod sealed;
+mod tags;
 mod users;
 
 pub use draft::Draft;
 pub use parts::{Link, Reading};
 pub use refusals::{Cause, Layer, Refusal};
 pub use sealed::Site;
+pub use users::User;

@@ -1,5 +1,5 @@
 // Reading a map: its fields one after another, and then the seal.
-ghost use Rattle.std.specs.Prelude.{◌≡◌, Bool, length};
+ghost use Rattle.std.specs.Prelude.{◌≡◌, ◌+◌, ◌*◌, length};
 ghost use Rattle.site.specs.Links.{linked};
 ghost use Rattle.site.specs.Plans.{plan_of};
 ghost use Rattle.site.specs.Maps.{blank, fields, sealable, every_node_linked, drafted};
@@ -19,25 +19,27 @@ pub(crate) fn declare_all(bytes: &[u8]) -> Result<Draft, Refusal>
         match rest {
             [] => return Ok(draft),
             [tag, hi, lo, tail @ ..] => {
-                let len = *hi as usize * 256 + *lo as usize;
+                let len = length_of(*hi, *lo);
                 if tail.len() < len {
-                    return Err(Refusal {
-                        cause: Cause::CutShort,
-                        place: at,
-                    });
+                    return Err(Cause::CutShort.at(at));
                 }
+                // Not by `map_err`: past its closure the proof did not close.
                 if let Err(cause) = draft.declare(*tag, &tail[0..len]) {
-                    return Err(Refusal { cause, place: at });
+                    return Err(cause.at(at));
                 }
                 rest = &tail[len..];
                 at += 3 + len;
             }
-            _ => return Err(Refusal {
-                cause: Cause::CutShort,
-                place: at,
-            }),
+            _ => return Err(Cause::CutShort.at(at)),
         }
     }
+}
+
+// The length that two bytes give, the high one first.
+fn length_of(hi: u8, lo: u8) -> usize
+    ensures { result ≡ hi * 256 + lo }
+{
+    usize::from(u16::from_be_bytes([hi, lo]))
 }
 
 impl Draft {
@@ -57,21 +59,11 @@ impl Draft {
 fn are_linked(links: &[Link], nodes: u8) -> bool
     ensures { result ≡ every_node_linked links.now nodes }
 {
-    for node in 0..nodes {
-        if !is_linked(links, node) {
-            return false;
-        }
-    }
-    true
+    (0..nodes).all(|node| is_linked(links, node))
 }
 
 fn is_linked(links: &[Link], node: u8) -> bool
     ensures { result ≡ linked links.now node }
 {
-    for link in links {
-        if link.ends_at(node) {
-            return true;
-        }
-    }
-    false
+    links.iter().any(|link| link.ends_at(node))
 }

@@ -1,8 +1,9 @@
 // Why something is refused, with the number of each cause, and where.
-ghost use Rattle.std.specs.Prelude.{◌≡◌};
+ghost use Rattle.std.specs.Prelude.{◌≡◌, ◌++◌, Some, codes, decimal};
 ghost use Rattle.site.specs.Refusals.{number, layer_of, raised};
 
-use fixed::NameFault;
+use fixed::{Full, NameFault};
+use std::fmt;
 
 #[derive(Clone, Copy, Debug, PartialEq)]
 pub enum Cause {
@@ -60,14 +61,34 @@ impl Cause {
     pub fn layer(self) -> Layer
         ensures { result ≡ layer_of self }
     {
-        match self.number() {
-            1..=8 => Layer::Map,
-            9 | 10 => Layer::Words,
-            11 | 12 => Layer::Rule,
-            13..=15 => Layer::Kind,
-            16 | 17 => Layer::Paths,
-            _ => Layer::Book,
+        match self {
+            Cause::CutShort
+            | Cause::UnknownTag
+            | Cause::NotAName
+            | Cause::DeclaredBefore
+            | Cause::TableFull
+            | Cause::BadLink
+            | Cause::Unsealable
+            | Cause::BadRankOrReading => Layer::Map,
+            Cause::TextEnds | Cause::Unexpected => Layer::Words,
+            Cause::OverLimit | Cause::Undeclared => Layer::Rule,
+            Cause::NoKind | Cause::BadValue | Cause::DoubledBound => Layer::Kind,
+            Cause::TooManyPaths | Cause::NoPath => Layer::Paths,
+            Cause::IdStands
+            | Cause::BookFull
+            | Cause::NoSuchId
+            | Cause::NoRoom
+            | Cause::NoPortOrClass
+            | Cause::OffGround
+            | Cause::NotTouched => Layer::Book,
         }
+    }
+
+    // This cause, found at a byte.
+    pub fn at(self, place: usize) -> Refusal
+        ensures { result ≡ record { cause = self; place = place } }
+    {
+        Refusal { cause: self, place }
     }
 }
 
@@ -82,6 +103,25 @@ impl Refusal {
         ensures { result ≡ layer_of self.cause }
     {
         self.cause.layer()
+    }
+}
+
+impl fmt::Display for Refusal {
+    ghost output = { λ r. Some (codes "refused " ++ decimal (number r.cause) ++ codes " at " ++ decimal r.place) };
+
+    fn fmt<W: fmt::Write>(&self, f: &mut fmt::Formatter<W>) -> fmt::Result {
+        write!(f, "refused {} at {}", self.number(), self.place)
+    }
+}
+
+// A list of a map without room, as a cause.
+impl From<Full> for Cause {
+    ghost use Rattle.site.specs.declared.refusals.Cause.TheVariants.{TableFull};
+
+    ghost from_gives = { λ _ c. c ≡ TableFull };
+
+    fn from(_full: Full) -> Cause {
+        Cause::TableFull
     }
 }
 

@@ -1,27 +1,28 @@
-// The users of a site: their names, and the rank of each.
-ghost use Rattle.std.specs.Prelude.{◌≡◌, length};
-ghost use Rattle.fixed.specs.Items.{items};
-ghost use Rattle.fixed.specs.Rosters.{names};
+// A user of a site.
+ghost use Rattle.std.specs.Prelude.{◌≡◌};
+ghost use Rattle.fixed.specs.Names.{spelling};
+ghost use Rattle.site.specs.Users.{called};
 
-mod adding;
+use fixed::{Name, Named};
 
-use fixed::{NameTable, Table};
-use std::alloc::AllocError;
-
-pub struct UserTable {
-    roster: NameTable<16>,
-    ranks: Table<u8, 16>,
-    ghost level: { length (items ranks) ≡ length (names roster) },
+// The smaller the rank, the weightier its rules.
+#[derive(Clone, Copy)]
+pub struct User {
+    pub name: Name,
+    pub rank: u8,
 }
 
-impl Clone for UserTable {
-    ghost is_clone = { λ x y. y ≡ x };
+impl Named for User {
+    ghost called = { called };
 
-    ghost is_infallible = { λ _. Unit {0} };
+    fn unused() -> User {
+        User {
+            name: Name::unused(),
+            rank: 0,
+        }
+    }
 
-    fn clone(&self) -> Result<UserTable, AllocError> {
-        Ok(*self)
+    fn name(&self) -> &Name {
+        &self.name
     }
 }
-
-impl Copy for UserTable {}

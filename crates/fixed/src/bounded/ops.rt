@@ -1,9 +1,9 @@
 // The calls of a bounded list.
-ghost use Rattle.std.specs.Prelude.{◌≡◌, ◌≤◌, [], ◌∷◌, ◌++◌, length, if◌then◌else◌, nat_lt};
+ghost use Rattle.std.specs.Prelude.{◌≡◌, ◌<◌, ◌≤◌, [], ◌∷◌, ◌++◌, length, take, MatchResult};
 ghost use Rattle.std.specs.List.{slice_get};
 ghost use Rattle.fixed.specs.Items.{items};
 
-use super::Table;
+use super::{Full, Table};
 
 impl<T: Copy, const N: usize> Table<T, N> {
     // The empty list; `fill` stands in the places that hold no item yet.
@@ -26,31 +26,35 @@ impl<T: Copy, const N: usize> Table<T, N> {
     pub fn as_slice(&self) -> &[T]
         ensures { result.now ≡ items self.now }
     {
-        let all = &self.slots[..];
-        &all[0..self.len]
+        &self.slots[..self.len]
     }
 
     pub fn get(&self, i: usize) -> Option<T>
         ensures { result ≡ slice_get (items self.now) i }
     {
-        if i < self.len {
-            Some(self.slots[i])
-        } else {
-            None
-        }
+        self.as_slice().get(i).copied()
     }
 
-    // One item more at the end; false, and nothing altered, where there is no room.
-    pub fn push(&mut self, item: T) -> bool
-        ensures test { result ≡ nat_lt (length (items self.old)) N }
-        ensures items { items self.new ≡ (if result then items self.old ++ item ∷ [] else items self.old) }
+    // One item more at the end; nothing is altered where there is no room.
+    pub fn push(&mut self, item: T) -> Result<(), Full>
+        ensures { MatchResult result
+            (λ _. (length (items self.old) < N) × (items self.new ≡ items self.old ++ item ∷ []))
+            (λ _. (N ≤ length (items self.old)) × (self.new ≡ self.old)) }
     {
-        if self.len < N {
-            self.slots[self.len] = item;
-            self.len += 1;
-            true
-        } else {
-            false
+        if self.len >= N {
+            return Err(Full);
+        }
+        self.slots[self.len] = item;
+        self.len += 1;
+        Ok(())
+    }
+
+    // Items more at the end; those for which there is no room are left out.
+    pub fn extend_from_slice(&mut self, more: &[T])
+        ensures { items self.new ≡ take N (items self.old ++ more.now) }
+    {
+        for item in more {
+            let _ = self.push(*item);
         }
     }
 }

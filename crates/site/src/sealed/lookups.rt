@@ -8,11 +8,15 @@ ghost use Rattle.fixed.specs.Rosters.{names, number_of, First, Absent};
 ghost use Rattle.site.specs.Links.{links_at, links_from};
 ghost use Rattle.site.specs.Plans.{is_port, reading_on};
 ghost use Rattle.site.specs.Sites.{plan};
+ghost use Rattle.site.specs.Users.{called, rank};
 
 use super::Site;
 use crate::parts::{Link, Reading};
-use fixed::{Name, NameTable, Table};
+use crate::users::User;
+use fixed::{Name, Named, Roster, Table};
 
+// Nodes, classes and users have calls of their own, each one line over one generic roster: a roster handed out would
+// number by `usize` what a map numbers in a byte.
 impl Site {
     pub fn node_count(&self) -> usize
         ensures is { result ≡ length (plan self.now).nodes }
@@ -56,11 +60,12 @@ impl Site {
         self.draft.classes.as_slice()
     }
 
-    // The names of the users, by number.
-    pub fn users(&self) -> &[Name]
-        ensures { map spelling result.now ≡ (plan self.now).users }
+    // The users, by number.
+    pub fn users(&self) -> &[User]
+        ensures names { map called result.now ≡ (plan self.now).users }
+        ensures ranks { map rank result.now ≡ (plan self.now).ranks }
     {
-        self.draft.users.roster().as_slice()
+        self.draft.users.as_slice()
     }
 
     // The number of the node of a name.
@@ -84,32 +89,32 @@ impl Site {
         ensures is { result ≡ number_of name.now (plan self.now).users }
         ensures least { MatchOption result (Absent name.now (plan self.now).users) (First name.now (plan self.now).users) }
     {
-        number_in(self.draft.users.roster(), name)
+        number_in(&self.draft.users, name)
     }
 
     pub fn node_name(&self, node: u8) -> Option<Name>
         ensures { option_map spelling result ≡ slice_get (plan self.now).nodes node }
     {
-        self.draft.nodes.name(node as usize)
+        self.draft.nodes.get(usize::from(node))
     }
 
     pub fn class_name(&self, class: u8) -> Option<Name>
         ensures { option_map spelling result ≡ slice_get (plan self.now).classes class }
     {
-        self.draft.classes.name(class as usize)
+        self.draft.classes.get(usize::from(class))
     }
 
     pub fn user_name(&self, user: u8) -> Option<Name>
         ensures { option_map spelling result ≡ slice_get (plan self.now).users user }
     {
-        self.draft.users.roster().name(user as usize)
+        Some(self.draft.users.get(usize::from(user))?.name)
     }
 
     // The rank of a user; the smaller, the weightier.
     pub fn rank(&self, user: u8) -> Option<u8>
         ensures { result ≡ slice_get (plan self.now).ranks user }
     {
-        self.draft.users.rank(user as usize)
+        Some(self.draft.users.get(usize::from(user))?.rank)
     }
 
     pub fn links(&self) -> &[Link]
@@ -119,6 +124,7 @@ impl Site {
     }
 
     // The numbers of a node's links, ascending; none for a node that is not declared.
+    // Pushed one by one, since a list of fixed capacity is not collected into.
     pub fn links_of(&self, node: u8) -> Table<u8, 64>
         ensures { items result ≡ links_at (plan self.now).links node }
     {
@@ -126,7 +132,7 @@ impl Site {
         let mut numbers = Table::new(0);
         for (i, link) in links.iter().enumerate() {
             if link.ends_at(node) {
-                numbers.push(i as u8);
+                let _ = numbers.push(i as u8);
             }
         }
         numbers
@@ -136,10 +142,9 @@ impl Site {
     pub fn is_port(&self, link: u8, node: u8) -> bool
         ensures { result ≡ is_port (plan self.now) link node }
     {
-        match self.draft.links.get(link as usize) {
-            Some(joint) => joint.ends_at(node),
-            None => false,
-        }
+        self.links()
+            .get(usize::from(link))
+            .is_some_and(|joint| joint.ends_at(node))
     }
 
     pub fn reading(&self) -> Reading
@@ -149,13 +154,12 @@ impl Site {
     }
 }
 
-fn number_in<const N: usize>(table: &NameTable<N>, name: &[u8]) -> Option<u8>
+// A number of a roster whose numbers fit a byte, as those of a map do.
+fn number_in<T: Named, const N: usize>(roster: &Roster<T, N>, name: &[u8]) -> Option<u8>
     requires { N ≤ 256 }
-    ensures is { result ≡ number_of name.now (names table.now) }
-    ensures least { MatchOption result (Absent name.now (names table.now)) (First name.now (names table.now)) }
+    ensures is { result ≡ number_of name.now (names T.called roster.now) }
+    ensures least { MatchOption result (Absent name.now (names T.called roster.now)) (First name.now (names T.called roster.now)) }
 {
-    match table.number(name) {
-        Some(number) => Some(number as u8),
-        None => None,
-    }
+    let number = roster.number(name)?;
+    Some(number as u8)
 }

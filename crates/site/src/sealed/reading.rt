@@ -22,10 +22,7 @@ impl Site {
     {
         let draft = reader::declare_all(bytes)?;
         if !draft.is_sealable() {
-            return Err(Refusal {
-                cause: Cause::Unsealable,
-                place: bytes.len(),
-            });
+            return Err(Cause::Unsealable.at(bytes.len()));
         }
         Ok(Site { draft })
     }

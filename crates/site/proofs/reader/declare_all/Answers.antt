@@ -1,8 +1,8 @@
-use Rattle.std.proofs.Common.{◌≡◌, ◌<◌, ◌≤◌, length, get_or, sym, ap, ◌∙◌, subst, arith}
+use Rattle.std.proofs.Common.{◌≡◌, ◌<◌, ◌≤◌, length, get_or, take, drop, ◌+◌, ◌-◌, Ok, Err, sym, ap, ◌∙◌, subst, arith}
 use Rattle.site.specs.Plans.{plan_of}
 use Rattle.site.specs.Fields.{declare, field}
 use Rattle.site.specs.Maps.{body_length, fields, placed}
-use Rattle.site.proofs.Folds.{Sofar, one_more, stops, ends_here, short, cut, judged, length_tail, front_is, after_is}
+use Rattle.site.proofs.Folds.{Sofar, one_more, stops, ends_here, short, cut, judged, length_tail, front_is, after_is, tail}
 use Rattle.site.proofs.reader.declare_all.Goals as goal
 use Rattle.site.proofs.reader.declare_all.Goals.{In-len3-up}
 
@@ -25,13 +25,14 @@ pub returns-in_default : goal.returns-in_default
 returns-in_default c =
     let some : 0 < length c.loop-rest.rest.now = grind arith in
     let few : length c.loop-rest.rest.now < 3 = grind arith in
-    stops c.loop-rest.invariant _ some (short c.loop-rest.at (plan_of c.loop-rest.draft) c.loop-rest.rest.now few)
+    ap Err c.at.ensures ∙ stops c.loop-rest.invariant _ some (short c.loop-rest.at (plan_of c.loop-rest.draft) c.loop-rest.rest.now few)
 
 pub returns-then-tail-len : goal.returns-then-tail-len
 returns-then-tail-len c =
     let t = length_tail c.loop-rest.rest.now in
     let three = long (goal.at.returns-then-tail-len c).In-len3-up in
-    stops c.loop-rest.invariant _ (omega arith) (cut c.loop-rest.at (plan_of c.loop-rest.draft) c.loop-rest.rest.now (omega arith) (omega arith))
+    ap Err c.at-then-tail-len.ensures
+    ∙ stops c.loop-rest.invariant _ (omega arith) (cut c.loop-rest.at (plan_of c.loop-rest.draft) c.loop-rest.rest.now (omega arith) (omega (arith, c.length_of-len.ensures)))
 
 pub overflow_add-at-in-len3-up : goal.overflow_add-at-in-len3-up
 overflow_add-at-in-len3-up c = omega (arith, length_tail c.loop-rest.rest.now, c.loop-rest.invariant.upto)
@@ -40,17 +41,21 @@ pub returns-in-Err : goal.returns-in-Err
 returns-in-Err c =
     let t = length_tail c.loop-rest.rest.now in
     let three = long (goal.at.returns-in-Err c).In-len3-up in
-    stops c.loop-rest.invariant _ (omega arith)
-    (judged c.loop-rest.at (plan_of c.loop-rest.draft) c.loop-rest.rest.now (omega arith) (omega arith)
+    let declared = subst (λ n. declare (plan_of c.loop-rest.draft) (field (get_or c.loop-rest.rest.now 0 0) (take (n - 0) (tail c.loop-rest.rest.now))) ≡ Err c.in-Err.cause) c.length_of-len.ensures c.in-Err.ensures.declared in
+    ap Err c.at-in-Err.ensures
+    ∙ stops c.loop-rest.invariant _ (omega arith)
+    (judged c.loop-rest.at (plan_of c.loop-rest.draft) c.loop-rest.rest.now (omega arith) (omega (arith, c.length_of-len.ensures))
     ∙ ap (λ b. placed c.loop-rest.at (declare (plan_of c.loop-rest.draft) (field (get_or c.loop-rest.rest.now 0 0) b))) (front_is c.loop-rest.rest.now (body_length c.loop-rest.rest.now))
-    ∙ ap (placed c.loop-rest.at) c.in-Err.ensures.declared)
+    ∙ ap (placed c.loop-rest.at) declared)
 
 pub loop-rest-preserved : goal.loop-rest-preserved
 loop-rest-preserved c =
     let t = length_tail c.loop-rest.rest.now in
     let three = long (goal.at.loop-rest-preserved c).In-len3-up in
-    subst (Sofar c.args.bytes.now _ (plan_of c.declare.new.self)) (sym (after_is c.loop-rest.rest.now (body_length c.loop-rest.rest.now)))
-    (one_more c.loop-rest.invariant (plan_of c.declare.new.self) (omega arith)
-    (judged c.loop-rest.at (plan_of c.loop-rest.draft) c.loop-rest.rest.now (omega arith) (omega arith)
+    let declared = subst (λ n. declare (plan_of c.loop-rest.draft) (field (get_or c.loop-rest.rest.now 0 0) (take (n - 0) (tail c.loop-rest.rest.now))) ≡ Ok (plan_of c.declare.new.self)) c.length_of-len.ensures c.in_default-declare.ensures.declared in
+    subst (λ n. Sofar c.args.bytes.now (c.loop-rest.at + (3 + n)) (plan_of c.declare.new.self) (take (length (tail c.loop-rest.rest.now) - n) (drop n (tail c.loop-rest.rest.now)))) (sym c.length_of-len.ensures)
+    (subst (Sofar c.args.bytes.now _ (plan_of c.declare.new.self)) (sym (after_is c.loop-rest.rest.now (body_length c.loop-rest.rest.now)))
+    (one_more c.loop-rest.invariant (plan_of c.declare.new.self) (omega (arith, c.length_of-len.ensures))
+    (judged c.loop-rest.at (plan_of c.loop-rest.draft) c.loop-rest.rest.now (omega arith) (omega (arith, c.length_of-len.ensures))
     ∙ ap (λ b. placed c.loop-rest.at (declare (plan_of c.loop-rest.draft) (field (get_or c.loop-rest.rest.now 0 0) b))) (front_is c.loop-rest.rest.now (body_length c.loop-rest.rest.now))
-    ∙ ap (placed c.loop-rest.at) c.in_default-declare.ensures.declared))
+    ∙ ap (placed c.loop-rest.at) declared)))

@@ -1,6 +1,6 @@
 use Rattle.std.proofs.Common.{◌+◌, ◌≤◌, ◌++◌, length, sym, ap, ◌∙◌, subst, arith}
 use Rattle.fixed.specs.Items.{items}
-use Rattle.fixed.proofs.Held.{items_within}
+use Rattle.fixed.proofs.Held.{items_within, pushed}
 use Rattle.site.specs.Links.{links_at}
 use Rattle.site.proofs.Asking.{Found, passed, noted, found_all}
 use Rattle.site.proofs.sealed.Site.links_of.Goals as goal
@@ -17,7 +17,8 @@ loop-i-preserved c =
     let few : length c.links-links.result.now ≤ 64 = omega (arith, ap length c.links-links.ensures, items_within c.args.self.now.draft.links) in
     elim c.if-ends_at.branch [
       | then-ends_at w ↦ subst (λ (t : _). Found c.links-links.result.now c.args.node (c.loop-i.i + 1) (items t)) (sym w.numbers-is)
-          (noted c.links-links.result.now c.args.node c.loop-i.i (items c.loop-i.numbers) c.loop-i.invariant w.push.result (items w.push.new.self) c.loop-i-test.true few (sym c.ends_at.ensures ∙ w.if-ends_at.true) w.push.ensures.test w.push.ensures.items)
+          (noted c.links-links.result.now c.args.node c.loop-i.i (items c.loop-i.numbers) c.loop-i.invariant (items w.push.new.self) c.loop-i-test.true (sym c.ends_at.ensures ∙ w.if-ends_at.true)
+          (pushed _ 64 _ _ _ w.push.result w.push.ensures (omega (arith, c.loop-i.invariant.few, c.loop-i-test.true, few))))
       | else-ends_at w ↦ subst (λ (t : _). Found c.links-links.result.now c.args.node (c.loop-i.i + 1) (items t)) (sym w.numbers-is)
           (passed c.links-links.result.now c.args.node c.loop-i.i (items c.loop-i.numbers) c.loop-i.invariant c.loop-i-test.true (sym c.ends_at.ensures ∙ w.if-ends_at.false))
     ]

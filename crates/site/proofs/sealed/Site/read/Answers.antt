@@ -26,7 +26,7 @@ returns-in_err-draft c =
 
 pub returns-then-not-is_sealable : goal.returns-then-not-is_sealable
 returns-then-not-is_sealable c =
-    let e = unsealed c.args.bytes.now (plan_of c.in_ok-draft.draft) c.in_ok-draft.ensures (sym c.if-not-is_sealable.ensures) in
+    let e = ap Err c.at.ensures ∙ unsealed c.args.bytes.now (plan_of c.in_ok-draft.draft) c.in_ok-draft.ensures (sym c.if-not-is_sealable.ensures) in
     record {
       defined = e;
       read = λ s q. read_says c.args.bytes.now s (sym e ∙ q);
