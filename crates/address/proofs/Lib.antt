@@ -1,4 +1,5 @@
 pub mod Patterns
-pub mod Entries
+pub mod Chained
 pub mod Exclusions
 pub mod Choices
+pub mod Firsts

@@ -1,19 +1,29 @@
 -- Reading the parts of a block one by one.
-use Rattle.std.proofs.Common.{◌≡◌, ℕ, suc, ◌+◌, ◌-◌, ◌<◌, ◌≤◌, true, ltb, List, length, take, drop, Some, None, Option, sym, ap, ◌∙◌, arith}
-use native.Mathlib.Nat.{sub-zero}
-use Rattle.std.specs.List.{prefix_len}
+use Rattle.std.proofs.Common.{◌≡◌, ℕ, suc, ◌+◌, ◌-◌, ◌<◌, ◌≤◌, true, false, ltb, List, length, take, drop, Some, None, Option, MatchOption, unwrap_or, sym, refl, ap, ◌∙◌, arith}
+use Rattle.std.specs.List.{prefix_len, AllWithin, HoldsAt}
 use Rattle.std.proofs.lemmas.List.{take_rest}
-use Rattle.std.proofs.lemmas.Bool.{lt-ltb}
+use Rattle.std.proofs.lemmas.Bool.{lt-ltb, le-ltb, cond-true, cond-false}
+use Rattle.std.proofs.lemmas.Iterator.{index_from_first}
 use Rattle.address.specs.declared.block.Block.{Block}
 use Rattle.address.specs.Blocks.{no_dot, cut, onward, with_text, block_from}
 
 -- where the first dot is known, so are the two texts beside it
-pub cut_at : (t : List ℕ) (i : ℕ) → i < length t → prefix_len no_dot t ≡ i → cut t ≡ Some (take (i - 0) t, take (length t - (i + 1)) (drop (i + 1) t))
+pub cut_at : (t : List ℕ) (i : ℕ) → i < length t → prefix_len no_dot t ≡ i → cut t ≡ Some (take i t, take (length t - (i + 1)) (drop (i + 1) t))
 cut_at t i h e =
     let dotted : ltb (prefix_len no_dot t) (length t) ≡ true = lt-ltb (prefix_len no_dot t) (length t) (omega arith) in
-    let front : take (prefix_len no_dot t) t ≡ take (i - 0) t = ap (λ n. take n t) (e ∙ sym (sub-zero i)) in
+    let front : take (prefix_len no_dot t) t ≡ take i t = ap (λ n. take n t) e in
     let back : drop (prefix_len no_dot t + 1) t ≡ take (length t - (i + 1)) (drop (i + 1) t) = ap (λ n. drop (n + 1) t) e ∙ sym (take_rest t (i + 1)) in
     rw dotted (cc)
+
+-- a search for the first dot tells how the text is cut
+pub cut_first : (t : List ℕ) (r : Option ℕ) → MatchOption r (AllWithin (λ b. no_dot b ≡ true) t 0 (length t)) (λ i. (i < length t) × HoldsAt (λ b. no_dot b ≡ false) t i × AllWithin (λ b. no_dot b ≡ true) t 0 i)
+    → MatchOption r (cut t ≡ None) (λ i. cut t ≡ Some (take i t, take (length t - (i + 1)) (drop (i + 1) t)))
+cut_first t r f = cases r f (index_from_first (prefix_len no_dot) (λ b. no_dot b ≡ false) (λ b. no_dot b ≡ true) refl (λ x xs h. cond-false _ _ _ h) (λ x xs h. cond-true _ _ _ h ∙ omega arith) t r f)
+  where
+    cases : (r : Option ℕ) → MatchOption r (AllWithin (λ b. no_dot b ≡ true) t 0 (length t)) (λ i. (i < length t) × HoldsAt (λ b. no_dot b ≡ false) t i × AllWithin (λ b. no_dot b ≡ true) t 0 i) → prefix_len no_dot t ≡ unwrap_or r (length t)
+        → MatchOption r (cut t ≡ None) (λ i. cut t ≡ Some (take i t, take (length t - (i + 1)) (drop (i + 1) t)))
+    cases None f e = cond-false _ _ _ (le-ltb (prefix_len no_dot t) (length t) (omega (arith, e)))
+    cases (Some i) f e = cut_at t i f.0 e
 
 -- a part before the last
 less : (i : ℕ) → i < 3 → 3 - i ≡ suc (3 - (i + 1))

@@ -1,17 +1,18 @@
 -- The address that comparisons choose: a fixed part keeps its value, a free part takes the least free one.
-use Rattle.std.specs.Prelude.{◌≡◌, ℕ, ◌<◌, Bool, true, false, cond, ◌||◌, List, [], ◌∷◌, length, Some, None, Option, slice_index}
+use Rattle.std.specs.Prelude.{◌≡◌, ℕ, ◌<◌, Bool, true, false, List, [], ◌∷◌, length, Some, None, Option, slice_index}
+use Rattle.std.specs.List.{list_any}
+use Rattle.std.specs.Option.{option_or}
 use Rattle.address.specs.declared.entry.Entry.{Entry}
-use Rattle.address.specs.Entries.{fixes, excludes}
+use Rattle.address.specs.Entries.{fixed, excludes}
 
 -- the number of a part in the first `==` that numbers it
 abbrev pub fixed_at : ℕ → List Entry → Option ℕ
 fixed_at i [] = None
-fixed_at i (e ∷ es) = cond (fixes i e) (Some (slice_index e.block.parts i)) (fixed_at i es)
+fixed_at i (e ∷ es) = option_or (fixed i e) (fixed_at i es)
 
 -- some `!=` has a certain number at a part
 abbrev pub excluded_at : ℕ → ℕ → List Entry → Bool
-excluded_at i v [] = false
-excluded_at i v (e ∷ es) = excludes i v e || excluded_at i v es
+excluded_at i v es = list_any (excludes i v) es
 
 -- the least value that no `!=` has at a part
 pub record LeastFree (i : ℕ) (es : List Entry) (v : ℕ) : Type 0 where

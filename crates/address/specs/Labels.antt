@@ -1,10 +1,5 @@
 -- An address as text: four numbers with dots between.
-use Rattle.std.specs.Prelude.{ℕ, ◌+◌, ◌/◌, ◌%◌, cond, List, [], ◌∷◌, ◌++◌, take, nat_le, slice_index}
-use Rattle.address.specs.declared.label.Label.{Label}
-
--- what is written so far
-abbrev pub letters : Label → List ℕ
-letters l = take l.len l.bytes
+use Rattle.std.specs.Prelude.{ℕ, ◌+◌, ◌/◌, ◌%◌, cond, List, [], ◌∷◌, ◌++◌, nat_le, slice_index}
 
 -- a number below 1000 in digits, without leading zeros
 abbrev pub digits_of : ℕ → List ℕ

@@ -9,9 +9,10 @@ use crate::block::{Block, block_of};
 use crate::choice::choose;
 use crate::entry::{Entry, all_agree};
 use crate::label::label_of;
-use kind::{Claim, Declined, Kind, Printable, Sign, put, same, within};
+use kind::{Claim, Declined, Kind, Printable, Sign, put, within};
 
 // Up to eight comparisons, which hold together.
+// With their count beside them: a kind's laws are of whole values, and of a `Table` only the items are known.
 #[derive(Clone, Copy)]
 pub struct Address {
     count: u8,
@@ -20,23 +21,22 @@ pub struct Address {
 
 impl Address {
     // The comparisons taken so far.
-    fn entries(&self) -> &[Entry]
+    pub(crate) fn entries(&self) -> &[Entry]
         ensures taken { result.now ≡ entries self.now }
         ensures few { length result.now ≤ 8 }
     {
-        let count = if self.count < 8 { self.count } else { 8 };
-        &self.slots[0..count as usize]
+        &self.slots[..usize::from(self.count.min(8))]
     }
 
     // Takes one more comparison on, if it is not the ninth.
-    fn add(&mut self, excluded: bool, block: Block) -> Result<Claim, Declined>
-        ensures reply { result ≡ reply (added self.old excluded block) }
-        ensures after { self.new ≡ after self.old (added self.old excluded block) }
+    fn add(&mut self, entry: Entry) -> Result<Claim, Declined>
+        ensures reply { result ≡ reply (added self.old entry) }
+        ensures after { self.new ≡ after self.old (added self.old entry) }
     {
         if self.count >= 8 {
             return Err(Declined::BadValue);
         }
-        self.slots[self.count as usize] = Entry { excluded, block };
+        self.slots[usize::from(self.count)] = entry;
         self.count += 1;
         Ok(Claim::Taken)
     }
@@ -50,27 +50,20 @@ impl Kind for Address {
     ghost laws = { Prim.search rules };
 
     fn open() -> Address {
-        let any = Entry {
-            excluded: false,
-            block: Block {
-                depth: 0,
-                parts: [0; 4],
-            },
-        };
         Address {
             count: 0,
-            slots: [any; 8],
+            slots: [Entry::In(Block::ANY); 8],
         }
     }
 
     fn take(&mut self, word: &[u8], sign: Sign, value: &[u8]) -> Result<Claim, Declined> {
-        if !same(word, b"hostIP") {
+        if word != b"hostIP".as_slice() {
             return Ok(Claim::NotMine);
         }
         let block = block_of(value).ok_or(Declined::BadValue)?;
         match sign {
-            Sign::Equal => self.add(false, block),
-            Sign::NotEqual => self.add(true, block),
+            Sign::Equal => self.add(Entry::In(block)),
+            Sign::NotEqual => self.add(Entry::Out(block)),
             _ => Err(Declined::BadValue),
         }
     }
@@ -85,12 +78,8 @@ impl Kind for Address {
 
     // The chosen address decides: where it is not in both sets, none is.
     fn common(&self, other: &Address) -> Option<[u8; 4]> {
-        let point = choose(self.entries(), other.entries());
-        if self.contains(&point) && other.contains(&point) {
-            Some(point)
-        } else {
-            None
-        }
+        let point = choose(self, other);
+        (self.contains(&point) && other.contains(&point)).then_some(point)
     }
 }
 
@@ -98,10 +87,10 @@ impl Printable for Address {
     ghost text = { address_text };
 
     fn text_len(p: &[u8; 4], room: usize) -> Option<usize> {
-        within(label_of(p).letters().len(), room)
+        within(label_of(p).len(), room)
     }
 
     fn write_text(p: &[u8; 4], out: &mut [u8]) -> Option<usize> {
-        put(label_of(p).letters(), out)
+        put(label_of(p).as_slice(), out)
     }
 }

@@ -1,112 +1,97 @@
 // Blocks of addresses: patterns of four parts, of which only stars follow a star.
-ghost use Rattle.std.specs.Prelude.{◌≡◌, ◌<◌, Some, None, MatchOption};
-ghost use Rattle.address.specs.Blocks.{at_part, covers, names, part_of, with_part, with_text, cut, block_of};
+ghost use Rattle.std.specs.Prelude.{◌≡◌, ◌<◌, take, Some, None, MatchOption};
+ghost use Rattle.std.specs.List.{list_any};
+ghost use Rattle.address.specs.Blocks.{part_at, at_part, covers, starred, byte_of, with_number, with_text, cut, block_of};
 
-use kind::{number_of, same};
+use kind::number_of;
 
-// The addresses whose first parts, as many as the depth, are the given ones.
+// The addresses that have the given numbers; where a pattern has a star, there is none.
 #[derive(Clone, Copy)]
 pub struct Block {
-    pub depth: u8,
-    pub parts: [u8; 4],
-}
-
-// A part of a pattern.
-#[derive(Clone, Copy)]
-pub enum Part {
-    Star,
-    Number(u8),
+    pub parts: [Option<u8>; 4],
 }
 
 impl Block {
-    fn at_part(&self, p: &[u8; 4], part: u8) -> bool
+    // All addresses.
+    pub(crate) const ANY: Block = Block { parts: [None; 4] };
+
+    // The number at a part, if no star stands there.
+    pub(crate) fn number(&self, part: usize) -> Option<u8>
+        ensures { result ≡ part_at self.now part }
+    {
+        self.parts.get(part).copied().flatten()
+    }
+
+    fn at_part(&self, p: &[u8; 4], part: usize) -> bool
         requires { part < 4 }
         ensures { result ≡ at_part self.now p.now part }
     {
-        self.depth <= part || self.parts[part as usize] == p[part as usize]
+        self.number(part).is_none_or(|n| n == p[part])
     }
 
     // Whether an address is in the block.
     pub(crate) fn covers(&self, p: &[u8; 4]) -> bool
         ensures { result ≡ covers self.now p.now }
     {
-        self.at_part(p, 0) && self.at_part(p, 1) && self.at_part(p, 2) && self.at_part(p, 3)
+        (0..4).all(|part| self.at_part(p, part))
     }
 
-    // Whether the block has a certain number at a part.
-    pub(crate) fn names(&self, part: u8, value: u8) -> bool
-        requires { part < 4 }
-        ensures { result ≡ names self.now part value }
+    // Whether a star stands before a place.
+    fn star_before(&self, place: usize) -> bool
+        ensures { result ≡ list_any starred (take place self.now.parts) }
     {
-        part < self.depth && self.parts[part as usize] == value
+        self.parts.iter().take(place).any(|part| part.is_none())
     }
 
-    // The block with its part at a place, unless a number follows a star.
-    fn with(mut self, place: u8, part: Part) -> Option<Block>
+    // The block with a number at a place, unless a star stands before it.
+    fn with_number(mut self, place: usize, n: u8) -> Option<Block>
         requires { place < 4 }
-        ensures { result ≡ with_part self place part }
+        ensures { result ≡ with_number self place n }
     {
-        match part {
-            Part::Star => Some(self),
-            Part::Number(n) => {
-                if self.depth != place {
-                    return None;
-                }
-                self.depth = place + 1;
-                self.parts[place as usize] = n;
-                Some(self)
-            }
+        if self.star_before(place) {
+            return None;
         }
+        self.parts[place] = Some(n);
+        Some(self)
     }
 
-    // The block with the part that a text writes at a place.
-    fn with_text(self, place: u8, text: &[u8]) -> Option<Block>
+    // The block with the part that a text writes at a place, where a star stands so far.
+    fn with_text(self, place: usize, text: &[u8]) -> Option<Block>
         requires { place < 4 }
         ensures { result ≡ with_text self place text.now }
     {
-        self.with(place, part_of(text)?)
+        if text == b"*".as_slice() {
+            return Some(self);
+        }
+        self.with_number(place, byte_of(text)?)
     }
 }
 
-// A star, or a number up to 255 in one to three digits.
-fn part_of(text: &[u8]) -> Option<Part>
-    ensures { result ≡ part_of text.now }
+// A number up to 255 in one to three digits.
+fn byte_of(text: &[u8]) -> Option<u8>
+    ensures { result ≡ byte_of text.now }
 {
-    if same(text, b"*") {
-        return Some(Part::Star);
-    }
     if text.len() > 3 {
         return None;
     }
-    let n = number_of(text)?;
-    if n <= 255 {
-        Some(Part::Number(n as u8))
-    } else {
-        None
-    }
+    u8::try_from(number_of(text)?).ok()
 }
 
 // The text before the first dot, and the text after it.
 fn cut(text: &[u8]) -> Option<(&[u8], &[u8])>
     ensures { MatchOption result (cut text.now ≡ None) (λ c. cut text.now ≡ Some (c.0.now, c.1.now)) }
 {
-    for (i, b) in text.iter().enumerate() {
-        if *b == b'.' {
-            return Some((&text[0..i], &text[i + 1..]));
-        }
-    }
-    None
+    let dot = text.iter().position(|b| *b == b'.')?;
+    Some((&text[..dot], &text[dot + 1..]))
 }
 
 // The block that four parts joined by dots write.
 pub(crate) fn block_of(text: &[u8]) -> Option<Block>
     ensures { result ≡ block_of text.now }
 {
-    let mut block = Block {
-        depth: 0,
-        parts: [0; 4],
-    };
+    let mut block = Block::ANY;
     let mut rest = text;
+    // A loop, since a `try_fold` would carry the block and the rest as a pair.
     for place in 0..3 {
         let (part, after) = cut(rest)?;
         block = block.with_text(place, part)?;

@@ -1,44 +1,28 @@
 // The address that the comparisons of two rules choose.
-ghost use Rattle.std.specs.Prelude.{◌≡◌, ◌+◌, ◌<◌, ◌≤◌, ◌++◌, length, slice_index_or};
-ghost use Rattle.address.specs.declared.entry.Entry.{Entry};
+ghost use Rattle.std.specs.Prelude.{◌≡◌, ◌++◌};
+ghost use Rattle.address.specs.Addresses.{entries};
 ghost use Rattle.address.specs.Choices.{fixed_at, LeastFree, PartOf, Chosen};
 
+use crate::address::Address;
 use crate::entry::Entry;
+use std::array;
 
 // The number that an `==` gives a part, if any does.
-fn fixed_at(entries: &[Entry], part: u8) -> Option<u8>
-    requires { part < 4 }
+fn fixed_at(entries: &[Entry], part: usize) -> Option<u8>
     ensures { result ≡ fixed_at part entries.now }
 {
-    for entry in entries {
-        if entry.fixes(part) {
-            return Some(entry.block.parts[part as usize]);
-        }
-    }
-    None
-}
-
-// The comparison at an index among those of two rules.
-fn nth<'a>(first: &'a [Entry], second: &'a [Entry], k: usize) -> &'a Entry
-    requires { (k < length first.now + length second.now) × (length first.now ≤ 8) }
-    ensures { (d : Entry) → result.now ≡ slice_index_or (first.now ++ second.now) k d }
-{
-    if k < first.len() {
-        &first[k]
-    } else {
-        &second[k - first.len()]
-    }
+    entries.iter().find_map(|entry| entry.fixed(part))
 }
 
 // The least value that no excluded block of two rules has at a part.
-fn least_free(first: &[Entry], second: &[Entry], part: u8) -> u8
-    requires { (part < 4) × ((length first.now ≤ 8) × (length second.now ≤ 8)) }
-    ensures { LeastFree part (first.now ++ second.now) result }
+fn least_free(first: &Address, second: &Address, part: usize) -> u8
+    ensures { LeastFree part (entries first.now ++ entries second.now) result }
 {
+    let (first, second) = (first.entries(), second.entries());
     let mut candidate = 0;
     'candidates: loop {
-        for k in 0..first.len() + second.len() {
-            if nth(first, second, k).excludes(part, candidate) {
+        for entry in first.iter().chain(second) {
+            if entry.excludes(part, candidate) {
                 candidate += 1;
                 continue 'candidates;
             }
@@ -48,28 +32,17 @@ fn least_free(first: &[Entry], second: &[Entry], part: u8) -> u8
 }
 
 // The value of a part: the fixed one, or else the least free one.
-fn part_of(first: &[Entry], second: &[Entry], part: u8) -> u8
-    requires { (part < 4) × ((length first.now ≤ 8) × (length second.now ≤ 8)) }
-    ensures { PartOf (first.now ++ second.now) part result }
+fn part_of(first: &Address, second: &Address, part: usize) -> u8
+    ensures { PartOf (entries first.now ++ entries second.now) part result }
 {
-    match fixed_at(first, part) {
-        Some(value) => value,
-        None => match fixed_at(second, part) {
-            Some(value) => value,
-            None => least_free(first, second, part),
-        },
-    }
+    fixed_at(first.entries(), part)
+        .or_else(|| fixed_at(second.entries(), part))
+        .unwrap_or_else(|| least_free(first, second, part))
 }
 
 // The address that the comparisons of two rules choose.
-pub(crate) fn choose(first: &[Entry], second: &[Entry]) -> [u8; 4]
-    requires { (length first.now ≤ 8) × (length second.now ≤ 8) }
-    ensures { Chosen (first.now ++ second.now) result }
+pub(crate) fn choose(first: &Address, second: &Address) -> [u8; 4]
+    ensures { Chosen (entries first.now ++ entries second.now) result }
 {
-    [
-        part_of(first, second, 0),
-        part_of(first, second, 1),
-        part_of(first, second, 2),
-        part_of(first, second, 3),
-    ]
+    array::from_fn(|part| part_of(first, second, part))
 }

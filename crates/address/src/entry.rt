@@ -1,14 +1,14 @@
 // Comparisons of addresses: a block to be in, or one to be outside of.
-ghost use Rattle.std.specs.Prelude.{◌≡◌, ◌<◌};
-ghost use Rattle.address.specs.Entries.{agrees, all_agree, fixes, excludes};
+ghost use Rattle.std.specs.Prelude.{◌≡◌};
+ghost use Rattle.address.specs.Entries.{agrees, all_agree, fixed, excludes};
 
 use crate::block::Block;
 
 // A block that an address must be in, or must not be in.
 #[derive(Clone, Copy)]
-pub struct Entry {
-    pub excluded: bool,
-    pub block: Block,
+pub enum Entry {
+    In(Block),
+    Out(Block),
 }
 
 impl Entry {
@@ -16,22 +16,30 @@ impl Entry {
     pub(crate) fn agrees(&self, p: &[u8; 4]) -> bool
         ensures { result ≡ agrees p.now self.now }
     {
-        self.block.covers(p) != self.excluded
+        match self {
+            Entry::In(block) => block.covers(p),
+            Entry::Out(block) => !block.covers(p),
+        }
     }
 
-    // Whether a block that an address must be in numbers a part.
-    pub(crate) fn fixes(&self, part: u8) -> bool
-        ensures { result ≡ fixes part self.now }
+    // The number that a block in which an address must be gives a part, if it gives it one.
+    pub(crate) fn fixed(&self, part: usize) -> Option<u8>
+        ensures { result ≡ fixed part self.now }
     {
-        !self.excluded && part < self.block.depth
+        match self {
+            Entry::In(block) => block.number(part),
+            Entry::Out(_) => None,
+        }
     }
 
     // Whether an excluded block has a certain number at a part.
-    pub(crate) fn excludes(&self, part: u8, value: u8) -> bool
-        requires { part < 4 }
+    pub(crate) fn excludes(&self, part: usize, value: u8) -> bool
         ensures { result ≡ excludes part value self.now }
     {
-        self.excluded && self.block.names(part, value)
+        match self {
+            Entry::In(_) => false,
+            Entry::Out(block) => block.number(part) == Some(value),
+        }
     }
 }
 
@@ -39,10 +47,5 @@ impl Entry {
 pub(crate) fn all_agree(entries: &[Entry], p: &[u8; 4]) -> bool
     ensures { result ≡ all_agree p.now entries.now }
 {
-    for entry in entries {
-        if !entry.agrees(p) {
-            return false;
-        }
-    }
-    true
+    entries.iter().all(|entry| entry.agrees(p))
 }

@@ -1,5 +1,6 @@
 -- Windows of seconds of the day, and how their bounds are taken.
 use Rattle.std.specs.Prelude.{◌≡◌, ℕ, Bool, cond, ◌&&◌, ◌||◌, Some, None, Ok, Err, codes, Option, Result, nat_le, nat_lt}
+use Rattle.std.specs.Option.{unwrap_or}
 use Rattle.std.specs.Str.{bytes_eq}
 use Rattle.kind.specs.declared.comparison.Claim.{Claim}
 use Rattle.kind.specs.declared.comparison.Claim.TheVariants.{Taken}
@@ -12,18 +13,13 @@ use Rattle.kind.specs.Sense.{Sense, Least}
 use Rattle.clock.specs.Times.{second_of}
 use Rattle.kind.specs.Taking.{Taking, became, not_mine, bad_value, doubled}
 
--- a bound, or the end of the day where there is none
-abbrev pub bound_or : ℕ → Option ℕ → ℕ
-bound_or n None = n
-bound_or n (Some m) = m
-
 -- the first second of a window
 abbrev pub from : Clock → ℕ
-from c = bound_or 0 c.lower
+from c = unwrap_or c.lower 0
 
 -- the last second of a window
 abbrev pub to : Clock → ℕ
-to c = bound_or 86399 c.upper
+to c = unwrap_or c.upper 86399
 
 -- a second lies between two others, both included; where the first is the later, the stretch runs past midnight
 abbrev pub between : ℕ → ℕ → ℕ → Bool

@@ -1,11 +1,11 @@
 // Windows of seconds of the day, under the word `time`.
-ghost use Rattle.std.specs.Prelude.{◌≡◌, min, max, ◌&&◌};
+ghost use Rattle.std.specs.Prelude.{◌≡◌, ◌&&◌, find};
 ghost use Rattle.clock.specs.Times.{clock_text};
 ghost use Rattle.clock.specs.Windows.{from, to, in_window, BoundSet, clock_sense};
 ghost use Rattle.std.proofs.Common.{rules};
 
 use crate::times::{DAY, second_of, text_of};
-use kind::{Claim, Declined, Kind, Printable, Sign, put, same, within};
+use kind::{Claim, Declined, Kind, Printable, Sign, put, within};
 
 // A window of the day; a missing bound leaves that end open.
 #[derive(Clone, Copy)]
@@ -18,19 +18,13 @@ impl Clock {
     fn from(&self) -> u32
         ensures { result ≡ from self.now }
     {
-        match self.lower {
-            Some(second) => second,
-            None => 0,
-        }
+        self.lower.unwrap_or(0)
     }
 
     fn to(&self) -> u32
         ensures { result ≡ to self.now }
     {
-        match self.upper {
-            Some(second) => second,
-            None => DAY - 1,
-        }
+        self.upper.unwrap_or(DAY - 1)
     }
 }
 
@@ -38,13 +32,11 @@ impl Clock {
 fn set_bound(bound: &mut Option<u32>, second: u32) -> Result<Claim, Declined>
     ensures { BoundSet bound.old second result bound.new }
 {
-    match *bound {
-        Some(_) => Err(Declined::Doubled),
-        None => {
-            *bound = Some(second);
-            Ok(Claim::Taken)
-        }
+    if bound.is_some() {
+        return Err(Declined::Doubled);
     }
+    *bound = Some(second);
+    Ok(Claim::Taken)
 }
 
 impl Kind for Clock {
@@ -62,7 +54,7 @@ impl Kind for Clock {
     }
 
     fn take(&mut self, word: &[u8], sign: Sign, value: &[u8]) -> Result<Claim, Declined> {
-        if !same(word, b"time") {
+        if word != b"time".as_slice() {
             return Ok(Claim::NotMine);
         }
         let second = second_of(value).ok_or(Declined::BadValue)?;
@@ -78,11 +70,10 @@ impl Kind for Clock {
     }
 
     fn contains(&self, p: &u32) -> bool {
-        let from = self.from();
-        let to = self.to();
+        let (from, to) = (self.from(), self.to());
         Self::on_ground(p)
             && if from <= to {
-                from <= *p && *p <= to
+                (from..=to).contains(p)
             } else {
                 from <= *p || *p <= to
             }
@@ -90,39 +81,26 @@ impl Kind for Clock {
 
     // The least common second begins the day or one of the two windows.
     fn common(&self, other: &Clock) -> Option<u32> {
-        let (early, late) = in_order(self.from(), other.from());
-        if in_both(self, other, 0) {
-            Some(0)
-        } else if in_both(self, other, early) {
-            Some(early)
-        } else if in_both(self, other, late) {
-            Some(late)
-        } else {
-            None
-        }
+        let (a, b) = (self.from(), other.from());
+        first_in_both(self, other, &[0, a.min(b), a.max(b)])
     }
 }
 
-// The earlier and the later of two seconds.
-fn in_order(a: u32, b: u32) -> (u32, u32)
-    ensures { (result.0 ≡ min a b) × (result.1 ≡ max a b) }
+// The first of some seconds that is in both windows.
+fn first_in_both(a: &Clock, b: &Clock, seconds: &[u32]) -> Option<u32>
+    ensures { result ≡ find (λ p. in_window a.now p && in_window b.now p) seconds.now }
 {
-    if a <= b { (a, b) } else { (b, a) }
-}
-
-// Whether a second is in both windows.
-fn in_both(a: &Clock, b: &Clock, p: u32) -> bool
-    ensures { result ≡ (in_window a.now p && in_window b.now p) }
-{
-    a.contains(&p) && b.contains(&p)
+    seconds
+        .iter()
+        .copied()
+        .find(|p| a.contains(p) && b.contains(p))
 }
 
 impl Printable for Clock {
     ghost text = { clock_text };
 
     fn text_len(p: &u32, room: usize) -> Option<usize> {
-        let len = if Self::on_ground(p) { 7 } else { 0 };
-        within(len, room)
+        within(if Self::on_ground(p) { 7 } else { 0 }, room)
     }
 
     fn write_text(p: &u32, out: &mut [u8]) -> Option<usize> {

@@ -1,6 +1,6 @@
 -- Days of the week: their names, and sets of them.
-use Rattle.std.specs.Prelude.{ℕ, zero, suc, ◌+◌, Bool, true, false, cond, not, ◌&&◌, List, map, replicate, Some, None, codes, Option, ◌==◌, nat_le, nat_lt, slice_index_or}
-use Rattle.std.specs.List.{range_with_len}
+use Rattle.std.specs.Prelude.{ℕ, Bool, true, false, cond, not, ◌&&◌, List, map, replicate, Some, None, codes, Option, ◌==◌, nat_le, nat_lt, slice_index_or}
+use Rattle.std.specs.List.{range_with_len, find}
 use Rattle.std.specs.Str.{bytes_eq}
 use Rattle.day.specs.declared.day.Day.{Day}
 use Rattle.kind.specs.declared.comparison.Sign.{Sign}
@@ -18,14 +18,9 @@ day_name d =
     (cond (d == 4) (codes "Friday")
     (cond (d == 5) (codes "Saturday") (codes "Sunday"))))))
 
--- the first of n days, from day d on, whose name it is
-abbrev pub named_from : ℕ → ℕ → List ℕ → Option ℕ
-named_from zero d v = None
-named_from (suc n) d v = cond (bytes_eq v (day_name d)) (Some d) (named_from n (d + 1) v)
-
 -- the day of a name
 abbrev pub day_of : List ℕ → Option ℕ
-day_of v = named_from 7 0 v
+day_of v = find (λ d. bytes_eq v (day_name d)) (range_with_len 0 7)
 
 -- a day stands to another as a sign says
 abbrev pub stands_to : Sign → ℕ → ℕ → Bool

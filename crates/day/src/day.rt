@@ -1,9 +1,11 @@
 // Sets of days of the week, under the word `day`.
 ghost use Rattle.std.specs.Prelude.{◌≡◌};
 ghost use Rattle.day.specs.Days.{day_name, day_of, stands_to, narrowed, day_sense};
+ghost use Rattle.kind.specs.Texts.{shown};
 ghost use Rattle.std.proofs.Common.{rules};
 
-use kind::{Claim, Declined, Kind, Printable, Sign, put, same, within};
+use kind::{Claim, Declined, Kind, Printable, Sign, put, within};
+use std::array;
 
 // The days that are left of the week, from Monday on.
 #[derive(Clone, Copy)]
@@ -11,31 +13,31 @@ pub struct Day {
     days: [bool; 7],
 }
 
-// The name of a day, from Monday, day 0, to Sunday, day 6.
+// The names of the days, from Monday, day 0, to Sunday, day 6.
+const NAMES: [&str; 7] = [
+    "Monday",
+    "Tuesday",
+    "Wednesday",
+    "Thursday",
+    "Friday",
+    "Saturday",
+    "Sunday",
+];
+
+// The name of a day, and nothing for another number.
 fn name_of(day: u8) -> &'static [u8]
-    ensures { result.now ≡ day_name day }
+    ensures { result.now ≡ shown day_sense day_name day }
 {
-    match day {
-        0 => b"Monday",
-        1 => b"Tuesday",
-        2 => b"Wednesday",
-        3 => b"Thursday",
-        4 => b"Friday",
-        5 => b"Saturday",
-        _ => b"Sunday",
-    }
+    NAMES
+        .get(usize::from(day))
+        .map_or(b"".as_slice(), |name| name.as_bytes())
 }
 
 // The day of a name.
 fn day_of(name: &[u8]) -> Option<u8>
     ensures { result ≡ day_of name.now }
 {
-    for day in 0..7 {
-        if same(name, name_of(day)) {
-            return Some(day);
-        }
-    }
-    None
+    (0..7).find(|day| name == name_of(*day))
 }
 
 // Whether a day stands to another as a sign says.
@@ -51,16 +53,14 @@ fn stands_to(sign: Sign, day: u8, other: u8) -> bool
 }
 
 // Of the days left, those that a comparison leaves.
-fn narrow(mut days: [bool; 7], sign: Sign, other: u8) -> [bool; 7]
+fn narrow(days: [bool; 7], sign: Sign, other: u8) -> [bool; 7]
     ensures { result ≡ narrowed sign other days }
 {
-    for day in 0..7 {
-        days[day as usize] = days[day as usize] && stands_to(sign, day, other);
-    }
-    days
+    array::from_fn(|day| days[day] && stands_to(sign, day as u8, other))
 }
 
 impl Kind for Day {
+    // A number: a type of seven days would ask more of callers.
     type Point = u8;
 
     ghost sense = { day_sense };
@@ -72,7 +72,7 @@ impl Kind for Day {
     }
 
     fn take(&mut self, word: &[u8], sign: Sign, value: &[u8]) -> Result<Claim, Declined> {
-        if !same(word, b"day") {
+        if word != b"day".as_slice() {
             return Ok(Claim::NotMine);
         }
         let day = day_of(value).ok_or(Declined::BadValue)?;
@@ -85,16 +85,11 @@ impl Kind for Day {
     }
 
     fn contains(&self, p: &u8) -> bool {
-        Self::on_ground(p) && self.days[*p as usize]
+        Self::on_ground(p) && self.days[usize::from(*p)]
     }
 
     fn common(&self, other: &Day) -> Option<u8> {
-        for day in 0..7 {
-            if self.contains(&day) && other.contains(&day) {
-                return Some(day);
-            }
-        }
-        None
+        (0..7).find(|day| self.contains(day) && other.contains(day))
     }
 }
 
@@ -102,19 +97,10 @@ impl Printable for Day {
     ghost text = { day_name };
 
     fn text_len(p: &u8, room: usize) -> Option<usize> {
-        let len = if Self::on_ground(p) {
-            name_of(*p).len()
-        } else {
-            0
-        };
-        within(len, room)
+        within(name_of(*p).len(), room)
     }
 
     fn write_text(p: &u8, out: &mut [u8]) -> Option<usize> {
-        if Self::on_ground(p) {
-            put(name_of(*p), out)
-        } else {
-            Some(0)
-        }
+        put(name_of(*p), out)
     }
 }

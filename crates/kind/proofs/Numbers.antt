@@ -2,12 +2,7 @@
 use Rattle.std.proofs.Common.{◌≡◌, ℕ, ◌+◌, ◌*◌, ◌^◌, ◌<◌, ◌≤◌, List, length, Some, None, sym, ap, ◌∙◌, pow-suc, add-one, arith}
 use Rattle.std.specs.List.{prefix_len}
 use Rattle.std.proofs.lemmas.Bool.{cond-false, or_from, le-ltb, ne_eqb}
-use Rattle.std.proofs.lemmas.Bool.Decides.{nat_tests}
 use Rattle.kind.specs.Digits.{digit, decimal, number}
-
--- a byte that is no digit stands among them
-pub number_none : (bs : List ℕ) → prefix_len digit bs < length bs → None ≡ number bs
-number_none bs h = grind (arith, nat_tests)
 
 -- one to four digits and nothing else
 pub number_some : (bs : List ℕ) (n : ℕ) → 0 < length bs → length bs ≤ 4 → prefix_len digit bs ≡ length bs → n ≡ decimal bs → Some n ≡ number bs

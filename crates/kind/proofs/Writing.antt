@@ -1,25 +1,12 @@
 -- A text, a blank and a text, written one after the other.
-use Rattle.std.proofs.Common.{◌≡◌, ℕ, ◌+◌, ◌-◌, ◌<◌, ◌≤◌, List, [], ◌∷◌, ◌++◌, length, get_or, take, drop, set, Some, None, Option, sym, ap, ◌∙◌, append_assoc, arith, length-append, length-drop, length-set}
+use Rattle.std.proofs.Common.{◌≡◌, ℕ, ◌+◌, ◌-◌, ◌<◌, ◌≤◌, List, [], ◌∷◌, ◌++◌, length, get_or, take, drop, set, Some, sym, ap, ◌∙◌, append_assoc, arith, length-append}
 use borrow.Rule.Slice.PartMut.{put_mid, post_of, Post-is}
 use Rattle.std.proofs.lemmas.List.{take_at, drop_at, drop_all, drop-drop, drop_more, set_at, append-nil, take_rest}
-use Rattle.kind.specs.Texts.{Within, Printed}
+use Rattle.kind.specs.Texts.{Printed}
 
 -- how long a text, a blank and a text are together
-module _ (room : ℕ) (a b t : List ℕ) (whole : t ≡ a ++ (32 ∷ b)) where
-  pub spaced_length : length t ≡ length a + (1 + length b)
-  spaced_length = ap length whole ∙ simp length-append (omega arith)
-
-  pub first_too_long : (r : Option ℕ) → r ≡ None → room < length a → Within room t r
-  first_too_long r e h = rw e (omega (arith, spaced_length))
-
-  pub no_room_left : (n : ℕ) → n ≡ length a → n ≡ room → room < length t
-  no_room_left n e f = omega (arith, spaced_length)
-
-  pub second_too_long : (r : Option ℕ) (n : ℕ) → r ≡ None → n ≡ length a → (room - n) - 1 < length b → Within room t r
-  second_too_long r n e f h = rw e (omega (arith, spaced_length))
-
-  pub both_fit : (n m : ℕ) → n ≡ length a → length a ≤ room → (n ≡ room → ⊥) → m ≡ length b → length b ≤ (room - n) - 1 → Within room t (Some ((n + 1) + m))
-  both_fit n m e f g h k = (omega (arith, spaced_length), omega (arith, spaced_length))
+spaced_length : (a b t : List ℕ) → t ≡ a ++ (32 ∷ b) → length t ≡ length a + (1 + length b)
+spaced_length a b t whole = ap length whole ∙ simp length-append (omega arith)
 
 -- writing over the end of a list
 over_end : {X : Type 0} (p ys zs : List X) (n : ℕ) → length p ≡ n → put_mid n (length (p ++ ys) - n) (p ++ ys) zs ≡ p ++ zs
@@ -28,20 +15,10 @@ over_end p ys zs n e =
     let post : post_of n (length (p ++ ys) - n) (p ++ ys) ≡ [] = Post-is n (length (p ++ ys)) (p ++ ys) le ∙ drop_all (length (p ++ ys)) (p ++ ys) (omega arith) in
     ap (λ z. z ++ (zs ++ post_of n (length (p ++ ys) - n) (p ++ ys))) (take_at p ys n e) ∙ ap (λ z. p ++ (zs ++ z)) post ∙ ap (λ z. p ++ z) (append-nil zs)
 
--- where the first text does not fit, nothing is written
-pub first_not_written : (o s t w u : List ℕ) (r : Option ℕ) → w ≡ s ++ (32 ∷ t) → r ≡ None → length o < length s → u ≡ o → Printed w o r u
-first_not_written o s t w u r whole e h same = rw e (omega (arith, spaced_length (length o) s t w whole), same)
-
 -- o is the buffer, w the whole text of s, a blank and t, and u what the buffer holds after s
-module _ (o s t w u : List ℕ) (n : ℕ) (whole : w ≡ s ++ (32 ∷ t)) (fits : length w ≤ length o) (count : n ≡ length s) (wrote : u ≡ s ++ drop (length s) o) where
+module _ (o s t w u : List ℕ) (n m : ℕ) (whole : w ≡ s ++ (32 ∷ t)) (all : m ≡ length w) (fits : length w ≤ length o) (count : n ≡ length s) (wrote : u ≡ s ++ drop (length s) o) where
   room_for_both : length s + (1 + length t) ≤ length o
-  room_for_both = omega (arith, spaced_length (length o) s t w whole)
-
-  pub blank_fits : n < length u
-  blank_fits = let r = room_for_both in let e : length u ≡ length o = ap length wrote ∙ simp (length-append, length-drop) (omega arith) in omega arith
-
-  pub rest_fits : n + 1 ≤ length (set u n 32)
-  rest_fits = let r = blank_fits in simp length-set (omega arith)
+  room_for_both = omega (arith, spaced_length s t w whole)
 
   with_blank : set u n 32 ≡ (s ++ (32 ∷ [])) ++ drop (n + 1) o
   with_blank =
@@ -56,17 +33,14 @@ module _ (o s t w u : List ℕ) (n : ℕ) (whole : w ≡ s ++ (32 ∷ t)) (fits 
   rest : take (length (set u n 32) - (n + 1)) (drop (n + 1) (set u n 32)) ≡ drop (n + 1) o
   rest = take_rest (set u n 32) (n + 1) ∙ ap (λ z. drop (n + 1) z) with_blank ∙ drop_at (s ++ (32 ∷ [])) (drop (n + 1) o) (n + 1) front
 
-  -- the second text fits there
-  pub second_fits : length (take (length (set u n 32) - (n + 1)) (drop (n + 1) (set u n 32))) < length t → ⊥
-  second_fits short = let r = room_for_both in let e = ap length rest ∙ length-drop (n + 1) o in omega arith
-
-  pub both_written : (m : ℕ) (v : List ℕ) → m ≡ length t → v ≡ t ++ drop (length t) (take (length (set u n 32) - (n + 1)) (drop (n + 1) (set u n 32))) → Printed w o (Some ((n + 1) + m)) (put_mid (n + 1) (length (set u n 32) - (n + 1)) (set u n 32) v)
-  both_written m v e f =
-      let long = spaced_length (length o) s t w whole in
+  -- and the second text after it
+  pub both_written : (v : List ℕ) → v ≡ t ++ drop (length t) (take (length (set u n 32) - (n + 1)) (drop (n + 1) (set u n 32))) → Printed w o (Some m) (put_mid (n + 1) (length (set u n 32) - (n + 1)) (set u n 32) v)
+  both_written v f =
+      let long = spaced_length s t w whole in
       let total : (n + 1) + length t ≡ length w = omega arith in
       let later : v ≡ t ++ drop (length w) o = f ∙ ap (λ z. t ++ drop (length t) z) rest ∙ ap (λ z. t ++ z) (drop-drop (length t) (n + 1) o) ∙ ap (λ k. t ++ drop k o) total in
       let joins : (s ++ (32 ∷ [])) ++ (t ++ drop (length w) o) ≡ (s ++ (32 ∷ t)) ++ drop (length w) o = simp append_assoc in (
-        omega arith,
+        all,
         fits,
         ap (λ z. put_mid (n + 1) (length z - (n + 1)) z v) with_blank
             ∙ over_end (s ++ (32 ∷ [])) (drop (n + 1) o) v (n + 1) front

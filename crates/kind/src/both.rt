@@ -64,22 +64,19 @@ impl<A: Printable, B: Printable> Printable for Both<A, B> {
             return Some(0);
         }
         let first = A::text_len(&p.0, room)?;
-        if first == room {
-            return None;
-        }
-        let second = B::text_len(&p.1, room - first - 1)?;
+        let left = (room - first).checked_sub(1)?;
+        let second = B::text_len(&p.1, left)?;
         Some(first + 1 + second)
     }
 
     // Once the whole text is known to fit, neither half can fail.
     fn write_text(p: &(A::Point, B::Point), out: &mut [u8]) -> Option<usize> {
-        if !Self::on_ground(p) {
-            return Some(0);
+        let len = Self::text_len(p, out.len())?;
+        if Self::on_ground(p) {
+            let first = A::write_text(&p.0, out)?;
+            out[first] = b' ';
+            let _ = B::write_text(&p.1, &mut out[first + 1..])?;
         }
-        let _ = Self::text_len(p, out.len())?;
-        let first = A::write_text(&p.0, out)?;
-        out[first] = b' ';
-        let second = B::write_text(&p.1, &mut out[first + 1..])?;
-        Some(first + 1 + second)
+        Some(len)
     }
 }

@@ -39,8 +39,5 @@ pub fn meets<K: Kind>(a: &K, b: &K) -> bool
     ensures meets { result ≡ true → Meet K.Kind.sense a.now b.now }
     ensures apart { result ≡ false → Apart K.Kind.sense a.now b.now }
 {
-    match a.common(b) {
-        Some(_) => true,
-        None => false,
-    }
+    a.common(b).is_some()
 }

@@ -2,13 +2,13 @@
 #![tactic(auto)]
 
 mod both;
-mod bytes;
 mod comparison;
 mod conditions;
+mod decimal;
 mod printable;
 
 pub use both::{Both, pair};
-pub use bytes::{number_of, same};
 pub use comparison::{Claim, Declined, Sign};
 pub use conditions::{Kind, meets};
+pub use decimal::number_of;
 pub use printable::{Printable, put, within};

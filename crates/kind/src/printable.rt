@@ -20,16 +20,14 @@ pub trait Printable: Kind {
 pub fn within(len: usize, room: usize) -> Option<usize>
     ensures { (t : List ℕ) → length t ≡ len → Within room t result }
 {
-    if len <= room { Some(len) } else { None }
+    (len <= room).then_some(len)
 }
 
 // Writes a text to the front of `out` if it fits.
 pub fn put(text: &[u8], out: &mut [u8]) -> Option<usize>
     ensures { Printed text.now out.old result out.new }
 {
-    if text.len() > out.len() {
-        return None;
-    }
-    out[0..text.len()].copy_from_slice(text);
+    let (front, _) = out.split_at_mut_checked(text.len())?;
+    front.copy_from_slice(text);
     Some(text.len())
 }

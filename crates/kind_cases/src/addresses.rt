@@ -79,12 +79,9 @@ fn address_of(comparison: &(Sign, &'static [u8])) -> Address {
 }
 
 // How many pairs have the common address that the table says.
-pub fn agreeing() -> u32 {
-    let mut count: u32 = 0;
-    for case in &CASES {
-        if address_of(&case.first).common(&address_of(&case.second)) == case.common {
-            count = count.saturating_add(1);
-        }
-    }
-    count
+pub fn agreeing() -> usize {
+    CASES
+        .iter()
+        .filter(|case| address_of(&case.first).common(&address_of(&case.second)) == case.common)
+        .count()
 }

@@ -25,12 +25,9 @@ const TIMES: [(&[u8], Option<u32>); 20] = [
 ];
 
 // How many values write what the table says.
-pub fn agreeing() -> u32 {
-    let mut count: u32 = 0;
-    for (value, second) in &TIMES {
-        if second_of(value) == *second {
-            count = count.saturating_add(1);
-        }
-    }
-    count
+pub fn agreeing() -> usize {
+    TIMES
+        .iter()
+        .filter(|case| second_of(case.0) == case.1)
+        .count()
 }

@@ -1,6 +1,8 @@
 // Pairs of comparisons of days against sets of days as bits.
+use crate::pairs;
 use day::Day;
 use kind::{Kind, Sign};
+use std::array;
 
 const NAMES: [&[u8]; 7] = [
     b"Monday",
@@ -22,48 +24,30 @@ const LEFT: [[u8; 7]; 4] = [
     [1, 3, 7, 15, 31, 63, 127],
 ];
 
-fn day_of(sign: usize, day: usize) -> Day {
-    let mut condition = Day::open();
-    if sign < 4 && day < 7 {
-        let _ = condition.take(b"day", SIGNS[sign], NAMES[day]);
-    }
-    condition
+// A condition by one comparison, and the bits of the days that it leaves.
+#[derive(Drop)]
+struct Case {
+    day: Day,
+    bits: u8,
 }
 
-fn bits_of(sign: usize, day: usize) -> u8 {
-    if sign < 4 && day < 7 {
-        LEFT[sign][day]
-    } else {
-        0
-    }
+fn case_of(sign: Sign, name: &[u8], bits: u8) -> Case {
+    let mut day = Day::open();
+    let _ = day.take(b"day", sign, name);
+    Case { day, bits }
 }
 
 // The lowest bit of both.
 fn search(a: u8, b: u8) -> Option<u8> {
-    let mut left = a & b;
-    for day in 0..7 {
-        if left % 2 == 1 {
-            return Some(day);
-        }
-        left = left / 2;
-    }
-    None
-}
-
-fn agrees(k: usize, l: usize) -> bool {
-    day_of(k / 7, k % 7).common(&day_of(l / 7, l % 7))
-        == search(bits_of(k / 7, k % 7), bits_of(l / 7, l % 7))
+    (0..7).find(|day| (a & b) >> day & 1 == 1)
 }
 
 // How many pairs of comparisons have the common day that the bits show.
-pub fn agreeing() -> u32 {
-    let mut count: u32 = 0;
-    for k in 0..28 {
-        for l in 0..28 {
-            if agrees(k, l) {
-                count = count.saturating_add(1);
-            }
-        }
-    }
-    count
+pub fn agreeing() -> usize {
+    let all: [Case; 28] = array::from_fn(|k| case_of(
+        SIGNS[k / 7],
+        NAMES[k % 7],
+        LEFT[k / 7][k % 7],
+    ));
+    pairs(&all, |a, b| a.day.common(&b.day) == search(a.bits, b.bits))
 }

@@ -9,6 +9,7 @@ use std::io::Write;
 // A clock second, a day and an address.
 type Point = ((u32, u8), [u8; 4]);
 
+// By hand: `Display` cannot be implemented here for a type of another crate.
 fn sign_text(sign: Sign) -> &'static str {
     match sign {
         Sign::Equal => "==",
@@ -18,6 +19,7 @@ fn sign_text(sign: Sign) -> &'static str {
     }
 }
 
+// By hand, as above.
 fn answer_text(answer: Result<Claim, Declined>) -> &'static str {
     match answer {
         Ok(Claim::Taken) => "taken",
@@ -28,6 +30,7 @@ fn answer_text(answer: Result<Claim, Declined>) -> &'static str {
 }
 
 // Offers a comparison and prints what becomes of it.
+// Five parameters: where it is printed, the condition, and the parts of a comparison, as `take` has them.
 fn offer(
     rt: &HostRuntime,
     condition: &mut Pile,
@@ -46,47 +49,48 @@ fn offer(
 // Prints a point.
 fn show(rt: &HostRuntime, p: &Point) -> io::Result<()> {
     let mut text = [0; 33];
-    match Pile::write_text(p, &mut text) {
-        Some(n) => rt.stdout().write_all(&text[0..n]),
-        None => Ok(()),
-    }
+    let Some(n) = Pile::write_text(p, &mut text) else {
+        return Ok(());
+    };
+    rt.stdout().write_all(&text[..n])
 }
 
 // Prints whether the condition holds at a point.
 fn ask(rt: &HostRuntime, condition: &Pile, p: &Point) -> io::Result<()> {
     show(rt, p)?;
-    if condition.contains(p) {
-        println!(rt; ": holds")
+    let answer = if condition.contains(p) {
+        "holds"
     } else {
-        println!(rt; ": does not hold")
-    }
+        "does not hold"
+    };
+    println!(rt; ": {answer}")
 }
 
 // Prints a point that two conditions have in common.
 fn meet(rt: &HostRuntime, a: &Pile, b: &Pile) -> io::Result<()> {
-    match a.common(b) {
-        Some(p) => {
-            show(rt, &p)?;
-            println!(rt; ": in common")
-        }
-        None => println!(rt; "nothing in common"),
-    }
+    let Some(p) = a.common(b) else {
+        return println!(rt; "nothing in common");
+    };
+    show(rt, &p)?;
+    println!(rt; ": in common")
 }
 
-fn build(rt: &HostRuntime, night: &mut Pile) -> io::Result<()> {
-    offer(rt, night, "time", Sign::AtLeast, "1600")?;
-    offer(rt, night, "time", Sign::AtMost, "0800")?;
-    offer(rt, night, "time", Sign::AtLeast, "0900")?;
-    offer(rt, night, "time", Sign::AtMost, "2400")?;
-    offer(rt, night, "day", Sign::NotEqual, "Sunday")?;
-    offer(rt, night, "hostIP", Sign::Equal, "131.1.*.*")?;
-    offer(rt, night, "hostIP", Sign::Equal, "131.*.1.*")?;
-    offer(rt, night, "loss", Sign::Equal, "1")
-}
+const NIGHT: [(&str, Sign, &str); 8] = [
+    ("time", Sign::AtLeast, "1600"),
+    ("time", Sign::AtMost, "0800"),
+    ("time", Sign::AtLeast, "0900"),
+    ("time", Sign::AtMost, "2400"),
+    ("day", Sign::NotEqual, "Sunday"),
+    ("hostIP", Sign::Equal, "131.1.*.*"),
+    ("hostIP", Sign::Equal, "131.*.1.*"),
+    ("loss", Sign::Equal, "1"),
+];
 
 fn main(rt: HostRuntime) -> io::Result<()> {
     let mut night = open_pile();
-    build(&rt, &mut night)?;
+    for (word, sign, value) in NIGHT {
+        offer(&rt, &mut night, word, sign, value)?;
+    }
     ask(&rt, &night, &((82800, 0), [131, 1, 0, 0]))?;
     ask(&rt, &night, &((43200, 0), [131, 1, 0, 0]))?;
     ask(&rt, &night, &((82800, 6), [131, 1, 0, 0]))?;

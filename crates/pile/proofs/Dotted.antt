@@ -1,15 +1,13 @@
 -- A block is read from a value exactly when the value writes it.
-use Rattle.std.proofs.Common.{◌≡◌, ℕ, zero, suc, ◌+◌, ◌<◌, ◌≤◌, min, Bool, true, false, cond, eqb, ltb, leb, ◌⊎◌, List, [], ◌∷◌, ◌++◌, length, get_or, take, drop, set, Some, None, codes, Option, sym, refl, ap, ◌∙◌, subst, inl, inr, ⊎_elim, append_assoc, arith, length-append, length-set}
-use Rattle.std.specs.List.{prefix_len}
+use Rattle.std.proofs.Common.{◌≡◌, ℕ, zero, suc, ◌+◌, ◌-◌, ◌<◌, ◌≤◌, Bool, true, false, cond, ltb, leb, List, [], ◌∷◌, ◌++◌, length, get_or, take, drop, set, Some, None, codes, Option, sym, refl, ap, ◌∙◌, subst, ⊎_elim, append_assoc, arith, length-append, length-set}
+use Rattle.std.specs.List.{prefix_len, list_any}
 use Rattle.std.specs.Str.{bytes_eq}
 use Rattle.std.proofs.lemmas.Slice.Eq.{bytes_eq-Decides}
-use Rattle.std.proofs.lemmas.List.{take_at, drop_at, drop_more, take-append-drop, get_or-set_same, get_or-set_other, same_lists, get_or_default}
-use Rattle.std.proofs.lemmas.Bool.{cases_Bool, cases_lt, cases_eq, cond-true, cond-false, ltb-true, ltb-false, leb-true, lt-ltb, le-ltb, le-leb, eqb-true, eq-eqb, not-false}
+use Rattle.std.proofs.lemmas.List.{take_at, drop_at, drop_more, take-append-drop, get_or-set_same, get_or-set_other, get_or-take, length-take-le, same_lists, get_or_default}
+use Rattle.std.proofs.lemmas.Bool.{cases_Bool, cases_eq, cond-true, cond-false, ltb-true, ltb-false, leb-true, lt-ltb, le-ltb, le-leb, eqb-true, not-false, or_parts, both_ways}
 use Rattle.std.proofs.lemmas.Bool.Decides.{nat_tests}
 use Rattle.address.specs.declared.block.Block.{Block}
-use Rattle.address.specs.declared.block.Part.{Part}
-use Rattle.address.specs.declared.block.Part.TheVariants.{Star, Number}
-use Rattle.address.specs.Blocks.{no_dot, cut, onward, byte_from, part_of, with_part, with_text, block_from, block_of, everything, WritesPart, Tidy, WritesBlock}
+use Rattle.address.specs.Blocks.{no_dot, cut, onward, part_at, starred, byte_from, byte_of, with_number, with_text, block_from, block_of, everything, WritesPart, Tidy, WritesBlock}
 use Rattle.kind.specs.Digits.{digit, number, Writes}
 use Rattle.pile.specs.Pile.{Exactly}
 use Rattle.pile.proofs.Spelled.{first_passes, writes_from, number_from}
@@ -84,98 +82,116 @@ weaker p q imp (x ∷ xs) e =
 digit_no_dot : (x : ℕ) → digit x ≡ true → no_dot x ≡ true
 digit_no_dot x h = grind (arith, nat_tests)
 
-part_no_dot : (b : Block) (i : ℕ) (t : List ℕ) → WritesPart b i t → prefix_len no_dot t ≡ length t
-part_no_dot b i t w =
-    ⊎_elim
-    (λ h. weaker digit no_dot digit_no_dot t (w.numbered h).0.digits)
-    (λ h. subst (λ x. prefix_len no_dot x ≡ length x) (sym (w.starred h)) refl)
-    (cases_lt i b.depth)
+part_no_dot : (o : Option ℕ) (t : List ℕ) → WritesPart o t → prefix_len no_dot t ≡ length t
+part_no_dot None t w = subst (λ x. prefix_len no_dot x ≡ length x) (sym w) refl
+part_no_dot (Some n) t w = weaker digit no_dot digit_no_dot t w.0.digits
 
--- a part as it is read
-number_part : (t : List ℕ) (n : ℕ) → Writes t n → length t ≤ 3 → n ≤ 255 → part_of t ≡ Some (Number n)
-number_part t n w few small =
+-- a number as it is read
+not_star : (t : List ℕ) (n : ℕ) → Writes t n → bytes_eq t (codes "*") ≡ false
+not_star t n w =
     ⊎_elim
     (λ star.
     let e = (bytes_eq-Decides t (codes "*")).0 star in
     let z : prefix_len digit (codes "*") ≡ length (codes "*") = subst (λ x. prefix_len digit x ≡ length x) e w.digits in
     absurd (omega arith))
-    (λ other.
-    cond-false _ _ _ other ∙ cond-false _ _ _ (le-ltb 3 (length t) few) ∙ ap byte_from (number_from t n w) ∙ cond-true _ _ _ (le-leb n 255 small))
+    (λ other. other)
     (cases_Bool (bytes_eq t (codes "*")))
 
-of_byte : (o : Option ℕ) (q : Part) → byte_from o ≡ Some q → (n : ℕ) × (o ≡ Some n) × (q ≡ Number n) × (n ≤ 255)
-of_byte None q e = absurd (no_value q e)
-of_byte (Some n) q e =
+number_part : (t : List ℕ) (n : ℕ) → Writes t n → length t ≤ 3 → n ≤ 255 → byte_of t ≡ Some n
+number_part t n w few small = cond-false _ _ _ (le-ltb 3 (length t) few) ∙ ap byte_from (number_from t n w) ∙ cond-true _ _ _ (le-leb n 255 small)
+
+of_byte : (o : Option ℕ) (m : ℕ) → byte_from o ≡ Some m → (o ≡ Some m) × (m ≤ 255)
+of_byte None m e = absurd (no_value m e)
+of_byte (Some n) m e =
     ⊎_elim
-    (λ small. (n, refl, sym (taken_out _ _ (sym (cond-true _ _ _ small) ∙ e)), leb-true n 255 small))
-    (λ large. absurd (no_value q (sym (cond-false _ _ _ large) ∙ e)))
+    (λ small.
+    let same : n ≡ m = taken_out n m (sym (cond-true _ _ _ small) ∙ e) in
+    let most = leb-true n 255 small in
+    (ap Some same, omega arith))
+    (λ large. absurd (no_value m (sym (cond-false _ _ _ large) ∙ e)))
     (cases_Bool (leb n 255))
 
-of_part : (t : List ℕ) (q : Part) → part_of t ≡ Some q → ((q ≡ Star) × (t ≡ codes "*")) ⊎ ((n : ℕ) × (q ≡ Number n) × (Writes t n) × (length t ≤ 3) × (n ≤ 255))
-of_part t q e =
+of_number : (t : List ℕ) (m : ℕ) → byte_of t ≡ Some m → WritesPart (Some m) t
+of_number t m e =
     ⊎_elim
-    (λ star. inl (sym (taken_out _ _ (sym (cond-true _ _ _ star) ∙ e)), (bytes_eq-Decides t (codes "*")).0 star))
-    (λ other.
-    ⊎_elim
-    (λ long. absurd (no_value q (sym (cond-true _ _ _ long) ∙ sym (cond-false _ _ _ other) ∙ e)))
+    (λ long. absurd (no_value m (sym (cond-true _ _ _ long) ∙ e)))
     (λ short.
-    let b = of_byte (number t) q (sym (cond-false _ _ _ short) ∙ sym (cond-false _ _ _ other) ∙ e) in
-    inr (b.0, b.2, writes_from t b.0 b.1, ltb-false 3 (length t) short, b.3))
-    (cases_Bool (ltb 3 (length t))))
-    (cases_Bool (bytes_eq t (codes "*")))
+    let b = of_byte (number t) m (sym (cond-false _ _ _ short) ∙ e) in
+    (writes_from t m b.0, ltb-false 3 (length t) short, b.1))
+    (cases_Bool (ltb 3 (length t)))
 
--- a block while it is read: its parts before a place are known
+-- a list in which no star stands
+no_star : (xs : List (Option ℕ)) (k : ℕ) → list_any starred xs ≡ false → k < length xs → get_or xs k None ≡ None → ⊥
+no_star [] k h in' e = absurd (omega arith)
+no_star (x ∷ xs) zero h in' e = both_ways _ (or_parts (starred x) (list_any starred xs) h).0 (ap starred e)
+no_star (x ∷ xs) (suc k) h in' e = no_star xs k (or_parts (starred x) (list_any starred xs) h).1 (omega arith) e
+
+all_numbers : (xs : List (Option ℕ)) → ((k : ℕ) → k < length xs → get_or xs k None ≡ None → ⊥) → list_any starred xs ≡ false
+all_numbers [] h = refl
+all_numbers (None ∷ xs) h = absurd (h 0 (omega arith) refl)
+all_numbers (Some n ∷ xs) h = all_numbers xs (λ k lt. h (suc k) (omega arith))
+
+-- a block while it is read: from a place on it has stars, and only stars follow a star
 record Building (i : ℕ) (c : Block) : Type 0 where
   four : length c.parts ≡ 4
-  deep : c.depth ≤ i
-  blank : (k : ℕ) → c.depth ≤ k → get_or c.parts k 0 ≡ 0
+  later : (k : ℕ) → i ≤ k → part_at c k ≡ None
+  stars_last : (k : ℕ) → part_at c k ≡ None → part_at c (k + 1) ≡ None
 
 -- a step keeps what was read and adds a part
 record Adds (i : ℕ) (t : List ℕ) (c d : Block) : Type 0 where
   builds : Building (i + 1) d
-  writes : WritesPart d i t
-  keeps : (k : ℕ) (x : List ℕ) → k < i → WritesPart c k x → WritesPart d k x
+  writes : WritesPart (part_at d i) t
+  keeps : (k : ℕ) → k < i → part_at d k ≡ part_at c k
 
 adds_star : (i : ℕ) (c : Block) → Building i c → Adds i (codes "*") c c
 adds_star i c b = record {
-  builds = record { four = b.four; deep = omega (arith, b.deep); blank = b.blank };
-  writes = record { numbered = λ h. absurd (omega (arith, b.deep)); starred = λ _. refl };
-  keeps = λ k x h w. w;
+  builds = record { four = b.four; later = λ k l. b.later k (omega arith); stars_last = b.stars_last };
+  writes = subst (λ o. WritesPart o (codes "*")) (sym (b.later i (omega arith))) refl;
+  keeps = λ k l. refl;
 }
 
-adds_number : (i n : ℕ) (t : List ℕ) (c : Block) → i < 4 → Building i c → c.depth ≡ i → Writes t n → length t ≤ 3 → n ≤ 255 → Adds i t c (record { depth = i + 1; parts = set c.parts i n })
-adds_number i n t c h b e w few small =
-    let here : get_or (set c.parts i n) i 0 ≡ n = get_or-set_same c.parts i n 0 (omega (arith, b.four)) in
-    let there : (k : ℕ) → (k ≡ i → ⊥) → get_or (set c.parts i n) k 0 ≡ get_or c.parts k 0 = λ k ne. get_or-set_other c.parts i k n 0 ne in
+adds_number : (i n : ℕ) (t : List ℕ) (c : Block) → i < 4 → Building i c → list_any starred (take i c.parts) ≡ false → WritesPart (Some n) t → Adds i t c (record { parts = set c.parts i (Some n) })
+adds_number i n t c h b free w =
+    let d : Block = record { parts = set c.parts i (Some n) } in
+    let here : part_at d i ≡ Some n = get_or-set_same c.parts i (Some n) None (omega (arith, b.four)) in
+    let there : (k : ℕ) → (k ≡ i → ⊥) → part_at d k ≡ part_at c k = λ k ne. get_or-set_other c.parts i k (Some n) None ne in
+    let numbers : (k : ℕ) → k < i → part_at c k ≡ None → ⊥ =
+    λ k l e. no_star (take i c.parts) k free (omega (arith, length-take-le i c.parts (omega (arith, b.four)))) (get_or-take i c.parts k None l ∙ e) in
     record {
       builds = record {
-        four = length-set c.parts i n ∙ b.four;
-        deep = omega arith;
-        blank = λ k l. there k (λ s. omega arith) ∙ b.blank k (omega arith);
+        four = length-set c.parts i (Some n) ∙ b.four;
+        later = λ k l. there k (λ s. omega arith) ∙ b.later k (omega arith);
+        stars_last = λ k e.
+            ⊎_elim
+            (λ same. absurd (no_value n (sym (subst (λ j. part_at d j ≡ None) same e) ∙ here)))
+            (λ other.
+            let was : part_at c k ≡ None = sym (there k other) ∙ e in
+            ⊎_elim
+            (λ next. absurd (numbers k (omega arith) was))
+            (λ far. there (k + 1) far ∙ b.stars_last k was)
+            (cases_eq (k + 1) i))
+            (cases_eq k i);
       };
-      writes = record { numbered = λ _. (subst (λ m. Writes t m) (sym here) w, few, omega arith); starred = λ l. absurd (omega arith) };
-      keeps = λ k x l p.
-          let old = p.numbered (omega arith) in
-          let same = there k (λ s. omega arith) in
-          record { numbered = λ _. (subst (λ m. Writes x m) (sym same) old.0, old.1, omega (arith, old.2)); starred = λ m. absurd (omega arith) };
+      writes = subst (λ o. WritesPart o t) (sym here) w;
+      keeps = λ k l. there k (λ s. omega arith);
     }
 
 adds : (i : ℕ) (t : List ℕ) (c d : Block) → i < 4 → Building i c → with_text c i t ≡ Some d → Adds i t c d
 adds i t c d h b e =
-    let o = of_onward (part_of t) (with_part c i) d e in
     ⊎_elim
     (λ star.
-    let same : c ≡ d = taken_out c d (ap (with_part c i) (sym star.0) ∙ o.2) in
-    subst (λ x. Adds i t c x) same (subst (λ x. Adds i x c c) (sym star.1) (adds_star i c b)))
-    (λ num.
-    let put : with_part c i (Number num.0) ≡ Some d = ap (with_part c i) (sym num.1) ∙ o.2 in
+    let same : c ≡ d = taken_out c d (sym (cond-true _ _ _ star) ∙ e) in
+    let is = (bytes_eq-Decides t (codes "*")).0 star in
+    subst (λ x. Adds i t c x) same (subst (λ x. Adds i x c c) (sym is) (adds_star i c b)))
+    (λ other.
+    let o = of_onward (byte_of t) (with_number c i) d (sym (cond-false _ _ _ other) ∙ e) in
     ⊎_elim
-    (λ fits.
-    let same = taken_out _ d (sym (cond-true _ _ _ fits) ∙ put) in
-    subst (λ x. Adds i t c x) same (adds_number i num.0 t c h b (eqb-true _ _ fits) num.2 num.3 num.4))
-    (λ late. absurd (no_value d (sym (cond-false _ _ _ late) ∙ put)))
-    (cases_Bool (eqb c.depth i)))
-    (of_part t o.0 o.1)
+    (λ late. absurd (no_value d (sym (cond-true _ _ _ late) ∙ o.2)))
+    (λ free.
+    let same = taken_out _ d (sym (cond-false _ _ _ free) ∙ o.2) in
+    subst (λ x. Adds i t c x) same (adds_number i o.0 t c h b free (of_number t o.0 o.1)))
+    (cases_Bool (list_any starred (take i c.parts))))
+    (cases_Bool (bytes_eq t (codes "*")))
 
 -- one part and the rest
 of_block : (n i : ℕ) (c d : Block) (v : List ℕ) → block_from (suc n) i c v ≡ Some d → (s : List ℕ) × (r : List ℕ) × (x : Block) × (v ≡ s ++ (46 ∷ r)) × (with_text c i s ≡ Some x) × (block_from n (i + 1) x r ≡ Some d)
@@ -184,15 +200,15 @@ of_block n i c d v e =
     let p = of_onward (with_text c i o.0.0) _ d o.2 in
     (o.0.0, o.0.1, p.0, of_cut v o.0.0 o.0.1 o.1, p.1, p.2)
 
+stars : (k : ℕ) → part_at everything k ≡ None
+stars zero = refl
+stars (suc zero) = refl
+stars (suc (suc zero)) = refl
+stars (suc (suc (suc zero))) = refl
+stars (suc (suc (suc (suc k)))) = refl
+
 start : Building 0 everything
-start = record { four = refl; deep = omega arith; blank = λ k _. zeros k }
-  where
-    zeros : (k : ℕ) → get_or everything.parts k 0 ≡ 0
-    zeros zero = refl
-    zeros (suc zero) = refl
-    zeros (suc (suc zero)) = refl
-    zeros (suc (suc (suc zero))) = refl
-    zeros (suc (suc (suc (suc k)))) = refl
+start = record { four = refl; later = λ k _. stars k; stars_last = λ k _. stars (k + 1) }
 
 block_to : (v : List ℕ) (b : Block) → block_of v ≡ Some b → WritesBlock v b
 block_to v b e =
@@ -209,75 +225,81 @@ block_to v b e =
       third = r.0;
       fourth = r.1;
       dotted = p.3 ∙ ap (λ x. p.0 ++ (46 ∷ x)) q.3 ∙ ap (λ x. p.0 ++ (46 ∷ (q.0 ++ (46 ∷ x)))) r.3;
-      part_0 = a3.keeps 0 p.0 (omega arith) (a2.keeps 0 p.0 (omega arith) (a1.keeps 0 p.0 (omega arith) a0.writes));
-      part_1 = a3.keeps 1 q.0 (omega arith) (a2.keeps 1 q.0 (omega arith) a1.writes);
-      part_2 = a3.keeps 2 r.0 (omega arith) a2.writes;
+      part_0 = subst (λ o. WritesPart o p.0) (sym (a3.keeps 0 (omega arith) ∙ a2.keeps 0 (omega arith) ∙ a1.keeps 0 (omega arith))) a0.writes;
+      part_1 = subst (λ o. WritesPart o q.0) (sym (a3.keeps 1 (omega arith) ∙ a2.keeps 1 (omega arith))) a1.writes;
+      part_2 = subst (λ o. WritesPart o r.0) (sym (a3.keeps 2 (omega arith))) a2.writes;
       part_3 = a3.writes;
-      tidy = record { four = a3.builds.four; deep = a3.builds.deep; blank = a3.builds.blank };
+      tidy = record { four = a3.builds.four; stars_last = a3.builds.stars_last };
     }
 
 -- a block up to a place of another
 record Front (b : Block) (i : ℕ) (c : Block) : Type 0 where
-  deep : c.depth ≡ min i b.depth
   four : length c.parts ≡ 4
-  each : (k : ℕ) → get_or c.parts k 0 ≡ cond (ltb k c.depth) (get_or b.parts k 0) 0
+  each : (k : ℕ) → part_at c k ≡ cond (ltb k i) (part_at b k) None
 
-grows : (b : Block) (i : ℕ) (t : List ℕ) (c : Block) → i < 4 → Front b i c → WritesPart b i t → (d : Block) × (with_text c i t ≡ Some d) × (Front b (i + 1) d)
-grows b i t c h f w =
-    ⊎_elim
-    (λ in'.
-    let num = w.numbered in' in
-    let n : ℕ = get_or b.parts i 0 in
-    let d : Block = record { depth = i + 1; parts = set c.parts i n } in
-    let at : c.depth ≡ i = f.deep ∙ omega arith in (
+stars_on : (b : Block) → Tidy b → (n k j : ℕ) → k + n ≡ j → part_at b k ≡ None → part_at b j ≡ None
+stars_on b t zero k j at e = let same : k ≡ j = omega arith in subst (λ x. part_at b x ≡ None) same e
+stars_on b t (suc n) k j at e = stars_on b t n (k + 1) j (omega arith) (t.stars_last k e)
+
+tests : (k i : ℕ) → (k ≡ i → ⊥) → ltb k i ≡ ltb k (i + 1)
+tests k i ne = grind (arith, nat_tests)
+
+grows : (b : Block) (i : ℕ) (t : List ℕ) (c : Block) → Tidy b → i < 4 → Front b i c → (o : Option ℕ) → part_at b i ≡ o → WritesPart o t → (d : Block) × (with_text c i t ≡ Some d) × (Front b (i + 1) d)
+grows b i t c y h f None is w = (
+  c,
+  subst (λ x. with_text c i x ≡ Some c) (sym w) refl,
+  record {
+    four = f.four;
+    each = λ k. f.each k ∙
+        ⊎_elim
+        (λ same. cond-false (ltb k i) (part_at b k) None (le-ltb k i (omega arith)) ∙ sym (cond-true (ltb k (i + 1)) (part_at b k) None (lt-ltb k (i + 1) (omega arith)) ∙ ap (part_at b) same ∙ is))
+        (λ other. ap (λ x. cond x (part_at b k) None) (tests k i other))
+        (cases_eq k i);
+  },
+)
+grows b i t c y h f (Some n) is w =
+    let d : Block = record { parts = set c.parts i (Some n) } in
+    let long = length-take-le i c.parts (omega (arith, f.four)) in
+    let numbers : (k : ℕ) → k < length (take i c.parts) → get_or (take i c.parts) k None ≡ None → ⊥ =
+    λ k l e.
+    let in' : k < i = omega arith in
+    let was : part_at b k ≡ None = sym (cond-true (ltb k i) (part_at b k) None (lt-ltb k i in')) ∙ sym (f.each k) ∙ sym (get_or-take i c.parts k None in') ∙ e in
+    no_value n (sym (stars_on b y (i - k) k i (omega arith) was) ∙ is) in (
       d,
-      ap (λ o. onward o (with_part c i)) (number_part t n num.0 num.1 num.2) ∙ cond-true _ _ _ (eq-eqb c.depth i at),
+      cond-false _ _ _ (not_star t n w.0) ∙ ap (λ o. onward o (with_number c i)) (number_part t n w.0 w.1 w.2) ∙ cond-false _ _ _ (all_numbers (take i c.parts) numbers),
       record {
-        deep = omega arith;
-        four = length-set c.parts i n ∙ f.four;
+        four = length-set c.parts i (Some n) ∙ f.four;
         each = λ k.
             ⊎_elim
-            (λ same. ap (λ x. get_or (set c.parts i n) x 0) same ∙ get_or-set_same c.parts i n 0 (omega (arith, f.four)) ∙ ap (λ x. get_or b.parts x 0) (sym same) ∙ sym (cond-true _ _ _ (lt-ltb k (i + 1) (omega arith))))
-            (λ other. get_or-set_other c.parts i k n 0 other ∙ f.each k ∙ ap (λ x. cond x (get_or b.parts k 0) 0) (tests k other at))
+            (λ same. ap (part_at d) same ∙ get_or-set_same c.parts i (Some n) None (omega (arith, f.four)) ∙ sym (cond-true (ltb k (i + 1)) (part_at b k) None (lt-ltb k (i + 1) (omega arith)) ∙ ap (part_at b) same ∙ is))
+            (λ other. get_or-set_other c.parts i k (Some n) None other ∙ f.each k ∙ ap (λ x. cond x (part_at b k) None) (tests k i other))
             (cases_eq k i);
       },
-    ))
-    (λ out. (
-      c,
-      subst (λ x. with_text c i x ≡ Some c) (sym (w.starred out)) refl,
-      record { deep = f.deep ∙ omega arith; four = f.four; each = f.each },
-    ))
-    (cases_lt i b.depth)
-  where
-    tests : (k : ℕ) → (k ≡ i → ⊥) → c.depth ≡ i → ltb k c.depth ≡ ltb k (i + 1)
-    tests k ne e = grind (arith, nat_tests)
+    )
 
 whole : (b c : Block) → Tidy b → Front b 4 c → c ≡ b
 whole b c t f =
-    let deep : c.depth ≡ b.depth = f.deep ∙ omega (arith, t.deep) in
     let parts : c.parts ≡ b.parts = same_lists c.parts b.parts (f.four ∙ sym t.four)
-    (λ k d h. get_or_default c.parts k d 0 h ∙ f.each k
-    ∙ ⊎_elim (λ in'. cond-true _ _ _ (lt-ltb k c.depth in')) (λ out. cond-false _ _ _ (le-ltb k c.depth out) ∙ sym (t.blank k (omega arith))) (cases_lt k c.depth)
-    ∙ get_or_default b.parts k 0 d (omega (arith, f.four, t.four))) in
-    ap (λ n. record { depth = n; parts = c.parts }) deep ∙ ap (λ p. record { depth = b.depth; parts = p }) parts
+    (λ k d h. get_or_default c.parts k d None h ∙ f.each k ∙ cond-true (ltb k 4) (part_at b k) None (lt-ltb k 4 (omega (arith, f.four))) ∙ get_or_default b.parts k None d (omega (arith, f.four, t.four))) in
+    ap (λ p. record { parts = p }) parts
 
 goes_on : (n i : ℕ) (c d : Block) (s r : List ℕ) → prefix_len no_dot s ≡ length s → with_text c i s ≡ Some d → block_from (suc n) i c (s ++ (46 ∷ r)) ≡ block_from n (i + 1) d r
 goes_on n i c d s r e f =
     ap (λ o. onward o (λ x. onward (with_text c i x.0) (λ y. block_from n (i + 1) y x.1))) (cut_dot s r e) ∙ ap (λ o. onward o (λ y. block_from n (i + 1) y r)) f
 
 begins : (b : Block) → Front b 0 everything
-begins b = record { deep = omega arith; four = refl; each = λ k. start.blank k (omega arith) ∙ sym (cond-false _ _ _ (le-ltb k 0 (omega arith))) }
+begins b = record { four = refl; each = λ k. stars k ∙ sym (cond-false (ltb k 0) (part_at b k) None (le-ltb k 0 (omega arith))) }
 
 block_back : (v : List ℕ) (b : Block) → WritesBlock v b → block_of v ≡ Some b
 block_back v b w =
-    let g0 = grows b 0 w.first everything (omega arith) (begins b) w.part_0 in
-    let g1 = grows b 1 w.second g0.0 (omega arith) g0.2 w.part_1 in
-    let g2 = grows b 2 w.third g1.0 (omega arith) g1.2 w.part_2 in
-    let g3 = grows b 3 w.fourth g2.0 (omega arith) g2.2 w.part_3 in
+    let g0 = grows b 0 w.first everything w.tidy (omega arith) (begins b) _ refl w.part_0 in
+    let g1 = grows b 1 w.second g0.0 w.tidy (omega arith) g0.2 _ refl w.part_1 in
+    let g2 = grows b 2 w.third g1.0 w.tidy (omega arith) g1.2 _ refl w.part_2 in
+    let g3 = grows b 3 w.fourth g2.0 w.tidy (omega arith) g2.2 _ refl w.part_3 in
     ap block_of w.dotted
-    ∙ goes_on 2 0 everything g0.0 w.first _ (part_no_dot b 0 _ w.part_0) g0.1
-    ∙ goes_on 1 1 g0.0 g1.0 w.second _ (part_no_dot b 1 _ w.part_1) g1.1
-    ∙ goes_on 0 2 g1.0 g2.0 w.third _ (part_no_dot b 2 _ w.part_2) g2.1
+    ∙ goes_on 2 0 everything g0.0 w.first _ (part_no_dot _ _ w.part_0) g0.1
+    ∙ goes_on 1 1 g0.0 g1.0 w.second _ (part_no_dot _ _ w.part_1) g1.1
+    ∙ goes_on 0 2 g1.0 g2.0 w.third _ (part_no_dot _ _ w.part_2) g2.1
     ∙ g3.1
     ∙ ap Some (whole b g3.0 w.tidy g3.2)
 

@@ -1,9 +1,10 @@
 -- A day is read from its name and from nothing else.
-use Rattle.std.proofs.Common.{◌≡◌, ℕ, zero, suc, ◌+◌, ◌<◌, List, Some, None, sym, refl, ap, ◌∙◌, subst, ⊎_elim, arith}
+use Rattle.std.proofs.Common.{◌≡◌, ℕ, zero, suc, ◌+◌, ◌<◌, List, Some, None, Option, sym, refl, ap, ◌∙◌, subst, ⊎_elim, arith}
+use Rattle.std.specs.List.{find, range_with_len}
 use Rattle.std.specs.Str.{bytes_eq}
 use Rattle.std.proofs.lemmas.Slice.Eq.{bytes_eq-Decides}
 use Rattle.std.proofs.lemmas.Bool.{cases_Bool, cond-true, cond-false}
-use Rattle.day.specs.Days.{day_name, named_from, day_of}
+use Rattle.day.specs.Days.{day_name, day_of}
 use Rattle.pile.specs.Pile.{Exactly}
 
 pub some_same : (x y : ℕ) → Some x ≡ Some y → x ≡ y
@@ -12,7 +13,11 @@ some_same x y e = cc
 pub none_some : (x : ℕ) → None ≡ Some x → ⊥
 none_some x e = let z : ◌≡◌ {A = ℕ} 0 1 = cc in omega arith
 
-named : (n i : ℕ) (v : List ℕ) (d : ℕ) → named_from n i v ≡ Some d → (d < i + n) × (v ≡ day_name d)
+-- the days from i on, n of them, searched for a name
+abbrev search_from : ℕ → ℕ → List ℕ → Option ℕ
+search_from n i v = find (λ d. bytes_eq v (day_name d)) (range_with_len i n)
+
+named : (n i : ℕ) (v : List ℕ) (d : ℕ) → search_from n i v ≡ Some d → (d < i + n) × (v ≡ day_name d)
 named zero i v d e = absurd (none_some d e)
 named (suc n) i v d e =
     ⊎_elim

@@ -1,17 +1,15 @@
 -- What a comparison that is taken does to a set.
-use Rattle.std.proofs.Common.{◌≡◌, ℕ, ◌+◌, ◌<◌, min, Bool, true, false, cond, not, ◌&&◌, ltb, List, [], ◌∷◌, ◌++◌, length, get_or, take, set, Some, None, sym, refl, ap, ◌∙◌, ⊎_elim, arith}
+use Rattle.std.proofs.Common.{◌≡◌, ℕ, ◌+◌, ◌<◌, min, Bool, true, false, ◌&&◌, ltb, List, [], ◌∷◌, ◌++◌, length, get_or, take, set, Some, None, sym, refl, ap, ◌∙◌, ⊎_elim, arith}
 use Rattle.std.proofs.lemmas.List.FromFn.{get_or-map-range_with_len}
 use Rattle.std.proofs.lemmas.List.{take_more_set}
 use Rattle.std.proofs.lemmas.Bool.{cases_lt, cond-true, lt-ltb, le-ltb}
 use Rattle.address.specs.declared.address.Address.{Address}
-use Rattle.address.specs.declared.block.Block.{Block}
 use Rattle.clock.specs.declared.clock.Clock.{Clock}
 use Rattle.kind.specs.declared.comparison.Sign.{Sign}
 use Rattle.kind.specs.declared.comparison.Sign.TheVariants.{AtLeast, AtMost}
 use Rattle.day.specs.declared.day.Day.{Day}
 use Rattle.address.specs.declared.entry.Entry.{Entry}
 use Rattle.address.specs.Addresses.{in_set, added}
-use Rattle.address.specs.Blocks.{covers}
 use Rattle.day.specs.Days.{left, stands_to, compared}
 use Rattle.address.specs.Entries.{agrees, all_agree}
 use Rattle.kind.specs.Taking.{Taking, after, became}
@@ -35,10 +33,9 @@ days_together c s d p =
     (λ h. let off = le-ltb p 7 h in rw off)
     (cases_lt p 7)
 
-pub addresses_together : (a : Address) (x : Bool) (b : Block) (p : List ℕ) → a.count < 8 → length a.slots ≡ 8 → in_set (after a (added a x b)) p ≡ (in_set a p && cond x (not (covers b p)) (covers b p))
-addresses_together a x b p room long =
-    let e : Entry = record { excluded = x; block = b } in
-    let taken : added a x b ≡ became (record { count = a.count + 1; slots = set a.slots a.count e }) = cond-true _ _ _ (lt-ltb a.count 8 room) in
+pub addresses_together : (a : Address) (e : Entry) (p : List ℕ) → a.count < 8 → length a.slots ≡ 8 → in_set (after a (added a e)) p ≡ (in_set a p && agrees p e)
+addresses_together a e p room long =
+    let taken : added a e ≡ became (record { count = a.count + 1; slots = set a.slots a.count e }) = cond-true _ _ _ (lt-ltb a.count 8 room) in
     let now' : min (a.count + 1) 8 ≡ a.count + 1 = omega arith in
     let then' : min a.count 8 ≡ a.count = omega arith in
     let grown : take (a.count + 1) (set a.slots a.count e) ≡ take a.count a.slots ++ (e ∷ []) = take_more_set a.slots a.count e (omega arith) in

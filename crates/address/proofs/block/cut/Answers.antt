@@ -1,18 +1,18 @@
-use Rattle.std.proofs.Common.{◌≡◌, true, false, get_or, arith}
-use Rattle.std.proofs.lemmas.List.Sums.{prefix_len-drop_yes, prefix_len-drop_no}
-use Rattle.std.proofs.lemmas.Bool.Decides.{nat_tests}
-use Rattle.address.specs.Blocks.{no_dot}
-use Rattle.address.proofs.Patterns.{cut_at}
+use Rattle.std.proofs.Common.{◌≡◌, Some, None, MatchOption, length, take, drop, ◌+◌, ◌-◌, true, false, rules}
+use borrow.Author.Tests.{tests}
+use Rattle.std.proofs.lemmas.Iterator.{YieldsList-from_slice, IsFirst-from_position}
+use Rattle.address.specs.Blocks.{no_dot, cut}
+use Rattle.address.proofs.Patterns.{cut_first}
 use Rattle.address.proofs.block.cut.Goals as goal
 
-pub returns-then-b-eq46 : goal.returns-then-b-eq46
-returns-then-b-eq46 c =
-    let dot : no_dot (get_or c.args.text.now c.loop-i.i 0) ≡ false = grind (arith, nat_tests) in
-    let here = prefix_len-drop_no no_dot c.args.text.now c.loop-i.i 0 (omega arith) dot in
-    cut_at c.args.text.now c.loop-i.i (omega arith) (omega arith)
+pub returns-in_err-dot : goal.returns-in_err-dot
+returns-in_err-dot c =
+    let found : MatchOption c.position.result (cut c.args.text.now ≡ None) (λ i. cut c.args.text.now ≡ Some (take i c.args.text.now, take (length c.args.text.now - (i + 1)) (drop (i + 1) c.args.text.now))) =
+    cut_first c.args.text.now c.position.result (IsFirst-from_position _ _ _ (λ b. no_dot b ≡ false) (λ b. no_dot b ≡ true) c.position.ensures.ran (YieldsList-from_slice c.args.text.now c.iter.ensures.rest) (λ x q k. search (rules, tests)) (λ x q k. search (rules, tests))) in
+    search rules
 
-pub loop-i-preserved : goal.loop-i-preserved
-loop-i-preserved c =
-    let other : no_dot (get_or c.args.text.now c.loop-i.i 0) ≡ true = grind (arith, nat_tests) in
-    let here = prefix_len-drop_yes no_dot c.args.text.now c.loop-i.i 0 (omega arith) other in
-    omega arith
+pub returns : goal.returns
+returns c =
+    let found : MatchOption c.position.result (cut c.args.text.now ≡ None) (λ i. cut c.args.text.now ≡ Some (take i c.args.text.now, take (length c.args.text.now - (i + 1)) (drop (i + 1) c.args.text.now))) =
+    cut_first c.args.text.now c.position.result (IsFirst-from_position _ _ _ (λ b. no_dot b ≡ false) (λ b. no_dot b ≡ true) c.position.ensures.ran (YieldsList-from_slice c.args.text.now c.iter.ensures.rest) (λ x q k. search (rules, tests)) (λ x q k. search (rules, tests))) in
+    search rules

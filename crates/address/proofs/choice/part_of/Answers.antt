@@ -1,19 +1,17 @@
-use Rattle.std.proofs.Common.{ℕ, ◌++◌, Option, sym, refl, ◌∙◌, subst}
-use Rattle.address.specs.Choices.{Kept}
-use Rattle.address.proofs.Choices.{fixed_first, fixed_second}
+use Rattle.std.proofs.Common.{◌≡◌, ◌++◌, Some, rules}
+use Rattle.std.specs.Prelude.{MatchOption}
+use Rattle.address.specs.Addresses.{entries}
+use Rattle.address.specs.Choices.{fixed_at, LeastFree}
+use Rattle.address.proofs.Choices.{part_kept}
 use Rattle.address.proofs.choice.part_of.Goals as goal
 
-pub returns-in-Some : goal.returns-in-Some
-returns-in-Some c =
-    subst (λ (o : Option ℕ). Kept o c.args.part (c.args.first.now ++ c.args.second.now) c.in-Some.value)
-    (sym (fixed_first c.args.part _ c.args.first.now c.args.second.now (sym c.in-Some.ensures))) refl
-
-pub returns-in-Some-fixed_at : goal.returns-in-Some-fixed_at
-returns-in-Some-fixed_at c =
-    subst (λ (o : Option ℕ). Kept o c.args.part (c.args.first.now ++ c.args.second.now) c.in-Some-fixed_at.value)
-    (sym (fixed_second c.args.part c.args.first.now c.args.second.now (sym c.in-None.ensures) ∙ sym c.in-Some-fixed_at.ensures)) refl
-
-pub returns-in-None-fixed_at : goal.returns-in-None-fixed_at
-returns-in-None-fixed_at c =
-    subst (λ (o : Option ℕ). Kept o c.args.part (c.args.first.now ++ c.args.second.now) c.least_free.result)
-    (sym (fixed_second c.args.part c.args.first.now c.args.second.now (sym c.in-None.ensures) ∙ sym c.in-None-fixed_at.ensures)) c.least_free.ensures
+pub returns : goal.returns
+returns c =
+    let i = c.args.part in
+    let xs = entries c.args.first.now in
+    let ys = entries c.args.second.now in
+    let o = c.or_else.result in
+    let v = c.unwrap_or_else.result in
+    let first : MatchOption (fixed_at i xs) (o ≡ fixed_at i ys) (λ w. o ≡ Some w) = search rules in
+    let then' : MatchOption o (LeastFree i (xs ++ ys) v) (λ w. v ≡ w) = search rules in
+    part_kept i xs ys o v first then'

@@ -1,17 +1,11 @@
-use Rattle.std.proofs.Common.{◌++◌, sym}
-use Rattle.std.proofs.lemmas.Bool.{both_ways}
-use Rattle.address.specs.Addresses.{entries}
-use Rattle.address.specs.Choices.{Chosen}
-use Rattle.address.proofs.Choices.{chosen_decides}
+use Rattle.std.proofs.Common.{◌≡◌, ◌&&◌, rules}
+use Rattle.address.specs.Addresses.{in_set}
+use Rattle.address.proofs.Choices.{chosen_common}
 use Rattle.address.proofs.address.AddressKind.common.Goals as goal
-use Rattle.address.proofs.address.AddressKind.common.Goals.{else-contains-via-then-contains+else-contains-2, else-contains-via-else-contains}
+use Rattle.address.proofs.address.AddressKind.common.Goals.{then-contains, else-contains}
 
-pub returns-else-contains : goal.returns-else-contains
-returns-else-contains c = λ q first second.
-    let chosen : Chosen (entries c.args.self.now ++ entries c.args.other.now) c.choose-point.result =
-    rw (← c.entries.ensures.taken, ← c.entries-2.ensures.taken) c.choose-point.ensures in
-    let both = chosen_decides (entries c.args.self.now) (entries c.args.other.now) c.choose-point.result q chosen first second in
-    elim c.else-contains.branch [
-      | else-contains-via-then-contains+else-contains-2 w ↦ both_ways _ (sym w.if-contains-2.ensures) both.1
-      | else-contains-via-else-contains w ↦ both_ways _ (sym w.if-contains.ensures) both.0
-    ]
+pub returns : goal.returns
+returns c =
+    let p = c.choose-point.result in
+    let in_both : c.if-contains.then_some ≡ (in_set c.args.self.now p && in_set c.args.other.now p) = elim c.if-contains.branch [ then-contains w ↦ search rules | else-contains w ↦ search rules ] in
+    rw c.then_some.ensures (chosen_common c.args.self.now c.args.other.now p c.if-contains.then_some c.choose-point.ensures in_both)

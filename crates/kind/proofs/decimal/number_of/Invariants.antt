@@ -1,7 +1,7 @@
 use Rattle.std.proofs.Common.{◌≡◌, ◌+◌, ◌^◌, ◌<◌, take, drop}
 use Rattle.std.specs.List.{prefix_len}
 use Rattle.kind.specs.Digits.{digit, decimal}
-use Rattle.kind.proofs.bytes.number_of.Given as goal
+use Rattle.kind.proofs.decimal.number_of.Given as goal
 
 abbrev pub invariant-loop-b : goal.invariant-loop-b
 invariant-loop-b l =
