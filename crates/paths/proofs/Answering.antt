@@ -7,26 +7,24 @@ use Rattle.paths.specs.declared.finding.Fault.TheVariants.{TooMany, NoPath}
 use Rattle.paths.specs.declared.pattern.Item.{Item}
 use Rattle.paths.specs.declared.ports.PortSet.{PortSet}
 use Rattle.paths.specs.declared.roads.Step.{Step}
-use Rattle.paths.specs.declared.tally.Tally.{Tally}
 use Rattle.paths.specs.Roads.{roads_over}
-use Rattle.paths.specs.Walks.{gather, Counted}
+use Rattle.paths.specs.Walks.{gather}
 use Rattle.paths.specs.Found.{starting, all_walks, alone_ports, touched_bits, answered, searched}
 
-module _ (ls : List Link) (n c : ℕ) (items is : List Item) (roads : List (List Step)) (over : roads ≡ roads_over ls) (nodes : c ≡ n) (pattern : is ≡ items) where
-  same : starting is roads 0 c ≡ all_walks ls n items
-  same = ap (λ x. starting x roads 0 c) pattern ∙ ap (λ x. starting items x 0 c) over ∙ ap (starting items (roads_over ls) 0) nodes
+module _ (ls : List Link) (n c : ℕ) (items : List Item) (roads : List (List Step)) (over : roads ≡ roads_over ls) (nodes : c ≡ n) where
+  same : starting items roads 0 c ≡ all_walks ls n items
+  same = ap (λ x. starting items x 0 c) over ∙ ap (starting items (roads_over ls) 0) nodes
 
-  pub few_answered : (e : Tally) (al found : ℕ) → Counted (length is) (record { count = 0; found = record { bits = 0 } }) 0 (starting is roads 0 c) e
-      → al ≡ alone_ports ls n is → found ≡ bit_or e.found.bits al → searched ls n items ≡ answered found
+  pub few_answered : (bits al found : ℕ) → length (starting items roads 0 c) ≤ 65536 → bits ≡ gather (length items) 0 0 (starting items roads 0 c)
+      → al ≡ alone_ports ls n items → found ≡ bit_or bits al → searched ls n items ≡ answered found
   unfolding searched
-  few_answered e al found counted alone all =
-      let few : length (all_walks ls n items) ≤ 65536 = omega (arith, counted.within, ap length same) in
-      let bits : found ≡ touched_bits ls n items =
-      all ∙ ap (λ x. bit_or x al) (counted.found ∙ ap (gather (length is) 0 0) same ∙ ap (λ x. gather (length x) 0 0 (all_walks ls n items)) pattern)
-      ∙ ap (bit_or (gather (length items) 0 0 (all_walks ls n items))) (alone ∙ ap (alone_ports ls n) pattern) in
-      cond-false (ltb 65536 (length (all_walks ls n items))) (Err TooMany) (answered (touched_bits ls n items)) (le-ltb 65536 _ few) ∙ ap answered (sym bits)
+  few_answered bits al found within gathered alone all =
+      let few : length (all_walks ls n items) ≤ 65536 = omega (arith, within, ap length same) in
+      let is : found ≡ touched_bits ls n items =
+      all ∙ ap (λ x. bit_or x al) (gathered ∙ ap (gather (length items) 0 0) same) ∙ ap (bit_or (gather (length items) 0 0 (all_walks ls n items))) alone in
+      cond-false (ltb 65536 (length (all_walks ls n items))) (Err TooMany) (answered (touched_bits ls n items)) (le-ltb 65536 _ few) ∙ ap answered (sym is)
 
-  pub many_answered : 65536 < length (starting is roads 0 c) → searched ls n items ≡ Err TooMany
+  pub many_answered : 65536 < length (starting items roads 0 c) → searched ls n items ≡ Err TooMany
   unfolding searched
   many_answered h =
       let many : 65536 < length (all_walks ls n items) = omega (arith, h, ap length same) in

@@ -7,22 +7,14 @@ use Rattle.paths.specs.declared.pattern.Item.{Item}
 use Rattle.paths.specs.declared.roads.Step.{Step}
 use Rattle.paths.specs.declared.tally.Tally.{Tally}
 use Rattle.paths.specs.declared.tally.OverBudget.{OverBudget}
-use Rattle.paths.specs.declared.trail.Trail.{Trail}
 use Rattle.paths.specs.Live.{after}
 use Rattle.paths.specs.Digits.{has}
 use Rattle.paths.specs.Walks.{Walk, grow, begin, free, through, along, opened, from, walks, beyond, ports_on, gather, Counted}
 
 -- The trail: the mark, what was kept over the call, and the clear.
-pub restored : (t a b d : Trail) (n : ℕ) → get_or t.marked n false ≡ false
-    → a ≡ record { marked = set t.marked n true } → b ≡ a
-    → d ≡ record { marked = set b.marked n false } → d ≡ t
-restored t a b d n fresh ea eb ed =
-    let back : set (set t.marked n true) n false ≡ t.marked =
-    set-set t.marked n true false ∙ ap (λ x. set t.marked n x) (sym fresh) ∙ set-get_or t.marked n false in
-    let mid : b ≡ record { marked = set t.marked n true } = eb ∙ ea in
-    let out : d ≡ record { marked = set (set t.marked n true) n false } =
-    subst (λ (x : Trail). d ≡ record { marked = set x.marked n false }) mid ed in
-    out ∙ ap (λ v. record { marked = v }) back
+pub restored : (v a b d : List Bool) (n : ℕ) → get_or v n false ≡ false → a ≡ set v n true → b ≡ a → d ≡ set b n false → d ≡ v
+restored v a b d n fresh ea eb ed =
+    ed ∙ ap (λ x. set x n false) (eb ∙ ea) ∙ set-set v n true false ∙ ap (λ x. set v n x) (sym fresh) ∙ set-get_or v n false
 
 -- One more node on the trail is one fewer that is free.
 pub free_mark : (v : List Bool) (n : ℕ) → n < length v → get_or v n false ≡ false → free v ≡ suc (free (set v n true))
@@ -140,42 +132,42 @@ counted_more last all ps n live used b e is (Ok u) x q f h c s k =
 counted_more last all ps n live used b e is (Err u) x q f h c s k = omega (arith, k, c, ap length q)
 
 -- One way: the search went on by it, stopped in it, or left it.
-module _ (last : ℕ) (items : List Item) (roads : List (List Step)) (tr tr₀ : Trail) (n live i used : ℕ) (ss xs : List Step) (d s : Step) (b e : Tally)
-    (lt : i < length xs) (ways : xs ≡ ss) (way : s ≡ get_or xs i d) (same : tr ≡ tr₀)
-    (g : Going last (beyond items roads tr₀.marked n live ss) (beyond items roads tr₀.marked n live (drop i ss)) used b e) where
+module _ (last : ℕ) (items : List Item) (roads : List (List Step)) (v v₀ : List Bool) (n live i used : ℕ) (ss xs : List Step) (d s : Step) (b e : Tally)
+    (lt : i < length xs) (ways : xs ≡ ss) (way : s ≡ get_or xs i d) (same : v ≡ v₀)
+    (g : Going last (beyond items roads v₀ n live ss) (beyond items roads v₀ n live (drop i ss)) used b e) where
   h : i < length ss
   h = omega (arith, lt, ap length ways)
 
-  first : beyond items roads tr₀.marked n live (drop i ss) ≡ through (λ m. walks items roads tr₀.marked m live) tr₀.marked n s ++ beyond items roads tr₀.marked n live (drop (i + 1) ss)
-  first = along_more (λ m. walks items roads tr₀.marked m live) tr₀.marked n ss i d h
-      ∙ ap (λ x. through (λ m. walks items roads tr₀.marked m live) tr₀.marked n x ++ beyond items roads tr₀.marked n live (drop (i + 1) ss)) (sym (way ∙ ap (λ (x : List Step). get_or x i d) ways))
+  first : beyond items roads v₀ n live (drop i ss) ≡ through (λ m. walks items roads v₀ m live) v₀ n s ++ beyond items roads v₀ n live (drop (i + 1) ss)
+  first = along_more (λ m. walks items roads v₀ m live) v₀ n ss i d h
+      ∙ ap (λ x. through (λ m. walks items roads v₀ m live) v₀ n x ++ beyond items roads v₀ n live (drop (i + 1) ss)) (sym (way ∙ ap (λ (x : List Step). get_or x i d) ways))
 
-  hop_is : (mark : Bool) → mark ≡ get_or tr.marked s.node false → mark ≡ false
-      → beyond items roads tr₀.marked n live (drop i ss) ≡ map (grow n s.link) (walks items roads tr₀.marked s.node live) ++ beyond items roads tr₀.marked n live (drop (i + 1) ss)
+  hop_is : (mark : Bool) → mark ≡ get_or v s.node false → mark ≡ false
+      → beyond items roads v₀ n live (drop i ss) ≡ map (grow n s.link) (walks items roads v₀ s.node live) ++ beyond items roads v₀ n live (drop (i + 1) ss)
   hop_is mark is fresh =
-      let fresh₂ : get_or tr₀.marked s.node false ≡ false = subst (λ (x : Trail). get_or x.marked s.node false ≡ false) same (sym is ∙ fresh) in
+      let fresh₂ : get_or v₀ s.node false ≡ false = subst (λ (x : List Bool). get_or x s.node false ≡ false) same (sym is ∙ fresh) in
       first
-      ∙ ap (λ x. x ++ beyond items roads tr₀.marked n live (drop (i + 1) ss)) (through_on (λ m. walks items roads tr₀.marked m live) tr₀.marked n (s) fresh₂)
+      ∙ ap (λ x. x ++ beyond items roads v₀ n live (drop (i + 1) ss)) (through_on (λ m. walks items roads v₀ m live) v₀ n (s) fresh₂)
 
-  pub hop_counted : (mark : Bool) (used' : ℕ) (e' : Tally) → mark ≡ get_or tr.marked s.node false → mark ≡ false → used' ≡ both used s.link
-      → Counted last e used' (walks items roads tr.marked s.node live) e'
-      → Going last (beyond items roads tr₀.marked n live ss) (beyond items roads tr₀.marked n live (drop (i + 1) ss)) used b e'
+  pub hop_counted : (mark : Bool) (used' : ℕ) (e' : Tally) → mark ≡ get_or v s.node false → mark ≡ false → used' ≡ both used s.link
+      → Counted last e used' (walks items roads v s.node live) e'
+      → Going last (beyond items roads v₀ n live ss) (beyond items roads v₀ n live (drop (i + 1) ss)) used b e'
   hop_counted mark used' e' is fresh u k =
-      let k₁ : Counted last e (both used s.link) (walks items roads tr.marked s.node live) e' = subst (λ x. Counted last e x (walks items roads tr.marked s.node live) e') u k in
-      let k₂ : Counted last e (both used s.link) (walks items roads tr₀.marked s.node live) e' = subst (λ (x : Trail). Counted last e (both used s.link) (walks items roads x.marked s.node live) e') same k₁ in
-      going_more last _ _ (walks items roads tr₀.marked s.node live) _ used n s.link b e e' (hop_is mark is fresh) g k₂
+      let k₁ : Counted last e (both used s.link) (walks items roads v s.node live) e' = subst (λ x. Counted last e x (walks items roads v s.node live) e') u k in
+      let k₂ : Counted last e (both used s.link) (walks items roads v₀ s.node live) e' = subst (λ (x : List Bool). Counted last e (both used s.link) (walks items roads x s.node live) e') same k₁ in
+      going_more last _ _ (walks items roads v₀ s.node live) _ used n s.link b e e' (hop_is mark is fresh) g k₂
 
-  pub hop_over : (mark : Bool) → mark ≡ get_or tr.marked s.node false → mark ≡ false
-      → 65536 < e.count + length (walks items roads tr.marked s.node live)
-      → 65536 < b.count + length (beyond items roads tr₀.marked n live ss)
+  pub hop_over : (mark : Bool) → mark ≡ get_or v s.node false → mark ≡ false
+      → 65536 < e.count + length (walks items roads v s.node live)
+      → 65536 < b.count + length (beyond items roads v₀ n live ss)
   hop_over mark is fresh k =
-      let k₂ : 65536 < e.count + length (walks items roads tr₀.marked s.node live) = subst (λ (x : Trail). 65536 < e.count + length (walks items roads x.marked s.node live)) same k in
-      going_over last (beyond items roads tr₀.marked n live ss) (beyond items roads tr₀.marked n live (drop i ss)) (walks items roads tr₀.marked s.node live) (beyond items roads tr₀.marked n live (drop (i + 1) ss)) used n s.link b e (hop_is mark is fresh) g k₂
+      let k₂ : 65536 < e.count + length (walks items roads v₀ s.node live) = subst (λ (x : List Bool). 65536 < e.count + length (walks items roads x s.node live)) same k in
+      going_over last (beyond items roads v₀ n live ss) (beyond items roads v₀ n live (drop i ss)) (walks items roads v₀ s.node live) (beyond items roads v₀ n live (drop (i + 1) ss)) used n s.link b e (hop_is mark is fresh) g k₂
 
-  pub hop_back : (mark : Bool) → mark ≡ get_or tr.marked s.node false → mark ≡ true
-      → Going last (beyond items roads tr₀.marked n live ss) (beyond items roads tr₀.marked n live (drop (i + 1) ss)) used b e
+  pub hop_back : (mark : Bool) → mark ≡ get_or v s.node false → mark ≡ true
+      → Going last (beyond items roads v₀ n live ss) (beyond items roads v₀ n live (drop (i + 1) ss)) used b e
   hop_back mark is seen =
-      let seen₂ : get_or tr₀.marked s.node false ≡ true = subst (λ (x : Trail). get_or x.marked s.node false ≡ true) same (sym is ∙ seen) in
-      subst (λ x. Going last (beyond items roads tr₀.marked n live ss) x used b e)
+      let seen₂ : get_or v₀ s.node false ≡ true = subst (λ (x : List Bool). get_or x s.node false ≡ true) same (sym is ∙ seen) in
+      subst (λ x. Going last (beyond items roads v₀ n live ss) x used b e)
       (first
-      ∙ ap (λ x. x ++ beyond items roads tr₀.marked n live (drop (i + 1) ss)) (through_back (λ m. walks items roads tr₀.marked m live) tr₀.marked n (s) seen₂)) g
+      ∙ ap (λ x. x ++ beyond items roads v₀ n live (drop (i + 1) ss)) (through_back (λ m. walks items roads v₀ m live) v₀ n (s) seen₂)) g

@@ -11,6 +11,7 @@ pub mod Listing
 pub mod Partials
 pub mod Touching
 pub mod Nodes
+pub mod Mapped
 pub mod Hits
 pub mod Drawing
 pub mod Unions

@@ -1,13 +1,15 @@
 -- The lowest port of two sets, link by link.
-use Rattle.std.proofs.Common.{◌≡◌, ℕ, ◌+◌, ◌*◌, ◌<◌, ◌≤◌, Bool, true, false, cond, ◌&&◌, ◌||◌, eqb, ltb, ◌⊎◌, List, length, get_or, Option, sym, refl, ap, ◌∙◌, subst, inl, inr, ⊎_elim, arith, MatchOption}
+use Rattle.std.proofs.Common.{◌≡◌, ℕ, zero, suc, ◌+◌, ◌*◌, ◌<◌, ◌≤◌, Bool, true, false, cond, ◌&&◌, ◌||◌, eqb, ltb, ◌⊎◌, List, length, get_or, Some, None, Option, sym, refl, ◌∙◌, subst, inl, inr, ⊎_elim, arith, MatchOption}
 use Rattle.std.proofs.lemmas.Bool.{eq-eqb, ne_eqb, eqb-true, eqb-false, ltb-true, ltb-false, lt-ltb, and_parts, and_from, or_cases, or_left, or_right, cases_Bool, cases_order, false≢true, cond_both}
+use Rattle.std.proofs.lemmas.Option.{MatchOption-at_some, MatchOption-at_none}
+use Rattle.std.specs.Option.{option_map}
 use Rattle.site.specs.declared.parts.Link.{Link}
 use Rattle.site.specs.Links.{nowhere}
 use Rattle.site.specs.Promises.{TwoEnded}
 use Rattle.paths.specs.declared.ports.Port.{Port}
 use Rattle.paths.specs.declared.ports.PortSet.{PortSet}
 use Rattle.paths.specs.Digits.{has}
-use Rattle.paths.specs.PortSets.{is_port, number_of, holds, lower_end, Shared, Lowest}
+use Rattle.paths.specs.PortSets.{is_port, number_of, holds, lower_end, common_at, Shared, Lowest}
 
 -- which end a port in a set is
 pub held_end : (ls : List Link) (s : PortSet) (p : Port) → holds ls s p ≡ true
@@ -86,19 +88,38 @@ module _ (ls : List Link) (s t : PortSet) (i : ℕ) (lt : i < length ls) (ne : (
       λ q sh. ⊎_elim (λ e. ⊎_elim (λ x. absurd (false≢true x.1)) (λ x. absurd (false≢true x.1)) (at_end false false ea eb q sh e))
       (⊎_elim (λ l. omega arith) (λ g. absurd (omega (arith, below q sh)))) (cases_order i q.link)
 
--- what one link tells: the lowest shared port is at it, or none is at it or before it
-pub lowest_step : (n : ℕ) (ls xs : List Link) (s t : PortSet) (i : ℕ) → xs ≡ ls → TwoEnded n ls → i < length xs → ((q : Port) → Shared ls s t q → i ≤ q.link)
-    → (a b : Bool) (r : Option ℕ) → a ≡ (has s.bits (2 * i) && has t.bits (2 * i)) → b ≡ (has s.bits (2 * i + 1) && has t.bits (2 * i + 1))
-    → r ≡ lower_end (get_or xs i nowhere) a b
-    → MatchOption r ((q : Port) → Shared ls s t q → i + 1 ≤ q.link) (λ m. Lowest ls s t (record { link = i; node = m }))
-lowest_step n ls xs s t i same two lt below a b r ea eb er =
-    let lt₂ : i < length ls = subst (λ (x : List Link). i < length x) same lt in
-    subst (λ (x : Option ℕ). MatchOption x ((q : Port) → Shared ls s t q → i + 1 ≤ q.link) (λ m. Lowest ls s t (record { link = i; node = m })))
-    (sym (er ∙ ap (λ (x : List Link). lower_end (get_or x i nowhere) a b) same))
-    (step ls s t i lt₂ (two i lt₂).2 below a b ea eb)
+-- where links before it have no shared port, one link tells: the lowest shared port is at it, or none is at it or before it
+common_step : (n : ℕ) (ls : List Link) (s t : PortSet) (i : ℕ) → TwoEnded n ls → i < length ls → ((q : Port) → Shared ls s t q → i ≤ q.link)
+    → MatchOption (common_at s t i (get_or ls i nowhere)) ((q : Port) → Shared ls s t q → i + 1 ≤ q.link) (λ p. Lowest ls s t p)
+common_step n ls s t i two lt below =
+    at_port ((q : Port) → Shared ls s t q → i + 1 ≤ q.link)
+    (lower_end (get_or ls i nowhere) (has s.bits (2 * i) && has t.bits (2 * i)) (has s.bits (2 * i + 1) && has t.bits (2 * i + 1)))
+    (step ls s t i lt (two i lt).2 below _ _ refl refl)
+  where
+    at_port : (P : Type 0) (o : Option ℕ) → MatchOption o P (λ m. Lowest ls s t (record { link = i; node = m })) → MatchOption (option_map (λ m. record { link = i; node = m }) o) P (λ p. Lowest ls s t p)
+    at_port P None h = h
+    at_port P (Some m) h = h
 
-pub none_past : (ls xs : List Link) (s t : PortSet) (i : ℕ) → xs ≡ ls → length xs ≤ i → ((q : Port) → Shared ls s t q → i ≤ q.link) → (q : Port) → Shared ls s t q → ⊥
-none_past ls xs s t i same out below q sh =
+none_below : (n : ℕ) (ls : List Link) (s t : PortSet) → TwoEnded n ls → (k : ℕ) → k ≤ length ls → ((j : ℕ) → j < k → common_at s t j (get_or ls j nowhere) ≡ None)
+    → (q : Port) → Shared ls s t q → k ≤ q.link
+none_below n ls s t two zero le none q sh = omega arith
+none_below n ls s t two (suc k) le none q sh =
+    let next = MatchOption-at_none ((q : Port) → Shared ls s t q → k + 1 ≤ q.link) (λ p. Lowest ls s t p) (none k (omega arith))
+    (common_step n ls s t k two (omega arith) (none_below n ls s t two k (omega arith) (λ j lt. none j (omega arith)))) in
+    omega (arith, next q sh)
+
+none_past : (ls : List Link) (s t : PortSet) → ((q : Port) → Shared ls s t q → length ls ≤ q.link) → (q : Port) → Shared ls s t q → ⊥
+none_past ls s t below q sh =
     let port = and_parts (is_port ls q) (has s.bits (number_of ls q)) sh.one in
     let lt = and_parts (ltb q.link (length ls)) (eqb (get_or ls q.link nowhere).a q.node || eqb (get_or ls q.link nowhere).b q.node) port.0 in
-    omega (arith, ltb-true _ _ lt.0, below q sh, ap length same)
+    omega (arith, ltb-true _ _ lt.0, below q sh)
+
+-- the port of the first link that has a shared one is the lowest
+pub first_is_lowest : (n : ℕ) (ls : List Link) (s t : PortSet) → TwoEnded n ls → (r : Option Port)
+    → MatchOption r ((i : ℕ) → i < length ls → common_at s t i (get_or ls i nowhere) ≡ None)
+    (λ p. (i : ℕ) × (i < length ls) × (common_at s t i (get_or ls i nowhere) ≡ Some p) × ((j : ℕ) → j < i → common_at s t j (get_or ls j nowhere) ≡ None))
+    → MatchOption r ((q : Port) → Shared ls s t q → ⊥) (λ p. Lowest ls s t p)
+first_is_lowest n ls s t two None none = none_past ls s t (none_below n ls s t two (length ls) (omega arith) none)
+first_is_lowest n ls s t two (Some p) h =
+    MatchOption-at_some ((q : Port) → Shared ls s t q → h.0 + 1 ≤ q.link) (λ p. Lowest ls s t p) p h.2
+    (common_step n ls s t h.0 two h.1 (none_below n ls s t two h.0 (omega (arith, h.1)) h.3))

@@ -1,15 +1,12 @@
 -- The steps of the search over all start nodes, and over the links of one node.
-use Rattle.std.proofs.Common.{◌≡◌, ℕ, suc, ◌+◌, ◌-◌, ◌<◌, ◌≤◌, false, List, [], ◌++◌, length, get_or, drop, sym, refl, ap, ◌∙◌, subst, arith}
-use Rattle.std.proofs.lemmas.List.{length-append, drop_more, drop_all, get_or-replicate}
-use Rattle.site.specs.declared.parts.Link.{Link}
-use Rattle.site.specs.Links.{nowhere}
+use Rattle.std.proofs.Common.{◌≡◌, ℕ, suc, ◌+◌, ◌-◌, ◌<◌, ◌≤◌, Bool, false, List, [], ◌++◌, length, get_or, sym, refl, ap, ◌∙◌, subst, arith}
+use Rattle.std.proofs.lemmas.List.{length-append, get_or-replicate}
 use Rattle.paths.specs.declared.pattern.Item.{Item}
 use Rattle.paths.specs.declared.roads.Step.{Step}
 use Rattle.paths.specs.declared.tally.Tally.{Tally}
-use Rattle.paths.specs.declared.trail.Trail.{Trail}
 use Rattle.paths.specs.Live.{start}
 use Rattle.paths.specs.Walks.{Walk, unmarked, walks, gather, Counted}
-use Rattle.paths.specs.Found.{starting, add_end, end_ports}
+use Rattle.paths.specs.Found.{starting}
 use Rattle.paths.proofs.Counting.{Going, gather_append}
 
 pub starting_more : (items : List Item) (roads : List (List Step)) (n k : ℕ) → n < k
@@ -38,13 +35,13 @@ pub sweep_none : (last : ℕ) (all : List Walk) (b e : Tally) → e.count ≡ b.
 sweep_none last all b e c f h = record { room = omega arith; count = ap (λ x. x + length all) c; found = ap (λ x. gather last 0 x all) f }
 
 -- one node more, over budget in it, and past the last
-module _ (last : ℕ) (items : List Item) (roads : List (List Step)) (n k live used : ℕ) (tr : Trail) (b e : Tally)
-    (lt : n < k) (clean : tr.marked ≡ unmarked) (at : live ≡ start items) (none : used ≡ 0)
+module _ (last : ℕ) (items : List Item) (roads : List (List Step)) (n k live used : ℕ) (v : List Bool) (b e : Tally)
+    (lt : n < k) (clean : v ≡ unmarked) (at : live ≡ start items) (none : used ≡ 0)
     (g : Going last (starting items roads 0 k) (starting items roads n (k - n)) 0 b e) where
-  pub sweep_more : (e' : Tally) → Counted last e used (walks items roads tr.marked n live) e'
+  pub sweep_more : (e' : Tally) → Counted last e used (walks items roads v n live) e'
       → Going last (starting items roads 0 k) (starting items roads (n + 1) (k - (n + 1))) 0 b e'
   sweep_more e' c =
-      let c₁ : Counted last e 0 (walks items roads tr.marked n live) e' = subst (λ x. Counted last e x (walks items roads tr.marked n live) e') none c in
+      let c₁ : Counted last e 0 (walks items roads v n live) e' = subst (λ x. Counted last e x (walks items roads v n live) e') none c in
       let c₂ : Counted last e 0 (walks items roads unmarked n live) e' = subst (λ v. Counted last e 0 (walks items roads v n live) e') clean c₁ in
       let c₃ : Counted last e 0 (walks items roads unmarked n (start items)) e' = subst (λ x. Counted last e 0 (walks items roads unmarked n x) e') at c₂ in
       let q = starting_more items roads n k lt in
@@ -56,7 +53,7 @@ module _ (last : ℕ) (items : List Item) (roads : List (List Step)) (n k live u
             ∙ sym (ap (gather last 0 e.found.bits) q) ∙ g.found;
       }
 
-  pub sweep_over : 65536 < e.count + length (walks items roads tr.marked n live) → 65536 < b.count + length (starting items roads 0 k)
+  pub sweep_over : 65536 < e.count + length (walks items roads v n live) → 65536 < b.count + length (starting items roads 0 k)
   sweep_over c =
       let c₂ : 65536 < e.count + length (walks items roads unmarked n live) = subst (λ v. 65536 < e.count + length (walks items roads v n live)) clean c in
       let c₃ : 65536 < e.count + length (walks items roads unmarked n (start items)) = subst (λ x. 65536 < e.count + length (walks items roads unmarked n x)) at c₂ in
@@ -72,12 +69,3 @@ sweep_all last items roads n k b e h g =
       count = omega (arith, g.count, ap length q);
       found = sym (ap (gather last 0 e.found.bits) q) ∙ g.found;
     }
-
--- one link more of a node, and past the last
-pub ends_more : (f f' i n all : ℕ) (ls : List Link) → i < length ls → f' ≡ add_end f i (get_or ls i nowhere) n → end_ports f i (drop i ls) n ≡ all → end_ports f' (i + 1) (drop (i + 1) ls) n ≡ all
-unfolding end_ports
-ends_more f f' i n all ls h e g = ap (λ x. end_ports x (i + 1) (drop (i + 1) ls) n) e ∙ sym (ap (λ x. end_ports f i x n) (drop_more ls i nowhere h)) ∙ g
-
-pub ends_all : (f i n all : ℕ) (ls : List Link) → length ls ≤ i → end_ports f i (drop i ls) n ≡ all → f ≡ all
-unfolding end_ports
-ends_all f i n all ls h g = sym (ap (λ x. end_ports f i x n) (drop_all i ls h)) ∙ g

@@ -1,12 +1,16 @@
 -- The ways on from a node, link by link.
-use Rattle.std.proofs.Common.{◌≡◌, ℕ, zero, suc, ◌+◌, ◌<◌, ◌≤◌, Bool, cond, ltb, List, [], ◌∷◌, ◌++◌, map, length, get_or, drop, set, Some, None, Option, sym, refl, ap, ◌∙◌, subst, ⊎_elim, arith}
-use Rattle.std.proofs.lemmas.List.{drop_more, drop_all, append_assoc, append-nil, length_push, get_or-map, length-map, get_or-set_same, get_or-set_other, get_or_past}
-use Rattle.std.proofs.lemmas.Bool.{lt-ltb, cond-true, cases_eq, cases_lt}
+use denote.Param.Members.{Mut}
+use Rattle.std.specs.Fn.{Called}
+use Rattle.std.specs.Array.{IsFromFnResultFrom, IsFromFnResult}
+use Rattle.std.proofs.Common.{◌≡◌, ℕ, zero, suc, ◌+◌, ◌<◌, ◌≤◌, true, false, cond, ◌||◌, eqb, List, [], ◌∷◌, ◌++◌, map, length, get_or, drop, Some, None, Option, sym, refl, ap, ◌∙◌, subst, ⊎_elim, arith}
+use Rattle.std.proofs.lemmas.List.{drop_more, drop_all, append_assoc, append-nil, length_push, get_or-map, length-map, get_or_past}
+use Rattle.std.proofs.lemmas.Bool.{cond-true, cond-false, cases_eq, cases_lt}
 use Rattle.std.proofs.lemmas.Bool.Decides.{nat_tests}
 use Rattle.std.proofs.lemmas.List.FromFn.{fill_by_all, get_or-map-range_with_len, length-map-range_with_len}
 use Rattle.std.specs.List.{range_with_len}
 use Rattle.site.specs.declared.parts.Link.{Link}
-use Rattle.site.specs.Links.{nowhere}
+use Rattle.site.specs.Links.{nowhere, ends}
+use Rattle.site.specs.Links.{far_end as end_past}
 use Rattle.paths.specs.declared.roads.Step.{Step}
 use Rattle.site.specs.Promises.{TwoEnded}
 use Rattle.paths.specs.Roads.{far_end, over, steps_of, roads_over}
@@ -20,34 +24,45 @@ pub steps_all : (ls : List Link) (n i : ℕ) (xs all : List Step) → length ls 
 unfolding steps_of
 steps_all ls n i xs all h e = sym (append-nil xs) ∙ sym (ap (λ x. xs ++ steps_of i x n) (drop_all i ls h)) ∙ e
 
-pub step_none : (ls : List Link) (n i : ℕ) (xs all : List Step) (o : Option ℕ) → i < length ls → o ≡ far_end (get_or ls i nowhere) n → o ≡ None
-    → xs ++ steps_of i (drop i ls) n ≡ all → xs ++ steps_of (i + 1) (drop (i + 1) ls) n ≡ all
-step_none ls n i xs all o h far is e =
-    ap (λ x. xs ++ (over i x ++ steps_of (i + 1) (drop (i + 1) ls) n)) (sym is ∙ far) ∙ ap (λ x. xs ++ x) (sym (steps_more ls n i h)) ∙ e
+far_is : (l : Link) (n : ℕ) → far_end l n ≡ cond (ends l n) (Some (end_past l n)) None
+far_is l n =
+    elim (eqb l.a n) as (λ x. cond x (Some l.b) (cond (eqb l.b n) (Some l.a) None) ≡ cond (x || eqb l.b n) (Some (cond x l.b l.a)) None)
+    [ true ↦ refl | false ↦ refl ]
 
-pub step_some : (ls : List Link) (n i m : ℕ) (xs ys all : List Step) (o : Option ℕ) (r : Bool) → i < length ls → length ls ≤ 64 → o ≡ far_end (get_or ls i nowhere) n → o ≡ Some m
-    → length xs ≤ i → r ≡ ltb (length xs) 64 → ys ≡ cond r (xs ++ record { link = i; node = m } ∷ []) xs
+pub step_none : (ls : List Link) (n i : ℕ) (xs all : List Step) → i < length ls → ends (get_or ls i nowhere) n ≡ false
+    → xs ++ steps_of i (drop i ls) n ≡ all → xs ++ steps_of (i + 1) (drop (i + 1) ls) n ≡ all
+step_none ls n i xs all h not e =
+    let l = get_or ls i nowhere in
+    ap (λ x. xs ++ (over i x ++ steps_of (i + 1) (drop (i + 1) ls) n)) (sym (far_is l n ∙ cond-false (ends l n) (Some (end_past l n)) None not)) ∙ ap (λ x. xs ++ x) (sym (steps_more ls n i h)) ∙ e
+
+pub step_some : (ls : List Link) (n i : ℕ) (xs ys all : List Step) → i < length ls → ends (get_or ls i nowhere) n ≡ true → length xs ≤ i
+    → ys ≡ xs ++ record { link = i; node = end_past (get_or ls i nowhere) n } ∷ []
     → xs ++ steps_of i (drop i ls) n ≡ all → (ys ++ steps_of (i + 1) (drop (i + 1) ls) n ≡ all) × (length ys ≤ i + 1)
-step_some ls n i m xs ys all o r h few far is low room pushed e =
-    let s : List Step = record { link = i; node = m } ∷ [] in
-    let there : ys ≡ xs ++ s = pushed ∙ cond-true r (xs ++ s) xs (room ∙ lt-ltb (length xs) 64 (omega arith)) in (
+step_some ls n i xs ys all h is low there e =
+    let l = get_or ls i nowhere in
+    let s : List Step = record { link = i; node = end_past l n } ∷ [] in (
       ap (λ x. x ++ steps_of (i + 1) (drop (i + 1) ls) n) there ∙ append_assoc xs s (steps_of (i + 1) (drop (i + 1) ls) n)
-          ∙ ap (λ x. xs ++ (over i x ++ steps_of (i + 1) (drop (i + 1) ls) n)) (sym is ∙ far) ∙ ap (λ x. xs ++ x) (sym (steps_more ls n i h)) ∙ e,
-      omega (arith, ap length there, length_push xs (record { link = i; node = m })),
+          ∙ ap (λ x. xs ++ (over i x ++ steps_of (i + 1) (drop (i + 1) ls) n)) (sym (far_is l n ∙ cond-true (ends l n) (Some (end_past l n)) None is)) ∙ ap (λ x. xs ++ x) (sym (steps_more ls n i h)) ∙ e,
+      omega (arith, ap length there, length_push xs (record { link = i; node = end_past l n })),
     )
 
--- The ways on from every node.
-pub fills_more : {X : Type 0} (f : ℕ → List Step) (g : X → List Step) (xs : List X) (n : ℕ) (x : X) → n < length xs → g x ≡ f n
-    → ((k : ℕ) (d : X) → k < n → g (get_or xs k d) ≡ f k) → (k : ℕ) (d : X) → k < n + 1 → g (get_or (set xs n x) k d) ≡ f k
-fills_more f g xs n x lt e below k d h =
-    ⊎_elim (λ q. ap (λ y. g (get_or (set xs n x) y d)) q ∙ ap g (get_or-set_same xs n x d lt) ∙ e ∙ ap f (sym q))
-    (λ ne. ap g (get_or-set_other xs n k x d ne) ∙ below k d (omega arith))
-    (cases_eq k n)
+-- The ways on from every node: what calls of one closure at each number gave, seen by h.
+pub calls_at : {F B X : Type 0} (g : Mut F (ℕ × Unit {0}) B) (f : F) (h : B → X) (v : ℕ → X) (ys : List B) (m : ℕ)
+    → ((k : ℕ) (y : B) (q : F) → k < m → Called g f (k, tt) y q → (q ≡ f) × (h y ≡ v k))
+    → (i n : ℕ) → i + n ≡ m → IsFromFnResultFrom g f ys i n → (k : ℕ) (d : B) → i ≤ k → k < m → h (get_or ys k d) ≡ v k
+calls_at g f h v ys m each i zero e r k d low high = absurd (omega arith)
+calls_at g f h v ys m each i (suc n) e r k d low high =
+    let here = each i r.1 r.0 (omega arith) r.3 in
+    ⊎_elim (λ q. ap (λ j. h (get_or ys j d)) q ∙ ap h (r.2.1 d) ∙ here.1 ∙ ap v (sym q))
+    (λ ne. calls_at g f h v ys m each (i + 1) n (omega arith) (subst (λ x. IsFromFnResultFrom g x ys (i + 1) n) here.0 r.4) k d (omega arith) high)
+    (cases_eq k i)
 
-pub fills_all : {X : Type 0} (f : ℕ → List Step) (g : X → List Step) (xs : List X) (n : ℕ) (d : X) → length xs ≡ n
-    → ((k : ℕ) (d : X) → k < n → g (get_or xs k d) ≡ f k) → map g xs ≡ map f (range_with_len 0 n)
-fills_all f g xs n d long below =
-    fill_by_all f (map g xs) n [] (length-map xs g ∙ long) (λ k h. get_or-map g xs k d [] (omega arith) ∙ below k d h)
+pub calls_all : {F B : Type 0} (g : Mut F (ℕ × Unit {0}) B) (f : F) (h : B → List Step) (v : ℕ → List Step) (ys : List B) (n : ℕ) → IsFromFnResult g f ys n
+    → ((k : ℕ) (y : B) (q : F) → k < n → Called g f (k, tt) y q → (q ≡ f) × (h y ≡ v k)) → map h ys ≡ map v (range_with_len 0 n)
+calls_all g f h v [] n r each = fill_by_all v [] n [] r.long (λ k lt. absurd (omega (arith, r.long)))
+calls_all g f h v (y ∷ ys) n r each =
+    fill_by_all v (map h (y ∷ ys)) n [] (length-map (y ∷ ys) h ∙ r.long)
+    (λ k lt. get_or-map h (y ∷ ys) k y [] (omega (arith, r.long)) ∙ calls_at g f h v (y ∷ ys) n each 0 n (omega arith) r.each k y (omega arith) lt)
 
 -- A way on is over one of the links, to its other end.
 pub record Way (ls : List Link) (i n : ℕ) (s : Step) : Type 0 where

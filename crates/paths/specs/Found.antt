@@ -1,5 +1,6 @@
 -- The answer of a search: how many partial paths, and which ports.
-use Rattle.std.specs.Prelude.{ℕ, zero, suc, ◌+◌, ◌*◌, ◌^◌, cond, List, [], ◌∷◌, ◌++◌, length, Ok, Err, Result, ◌==◌, bit_or, nat_lt}
+use Rattle.std.specs.Prelude.{ℕ, zero, suc, ◌+◌, ◌*◌, ◌^◌, cond, List, [], ◌∷◌, ◌++◌, length, Ok, Err, Result, ◌==◌, bit_or, nat_lt, fold}
+use Rattle.std.specs.List.{enumerate_from}
 use Rattle.site.specs.declared.parts.Link.{Link}
 use Rattle.paths.specs.declared.finding.Fault.{Fault}
 use Rattle.paths.specs.declared.finding.Fault.TheVariants.{TooMany, NoPath}
@@ -24,10 +25,13 @@ all_walks ls count items = starting items (roads_over ls) 0 count
 abbrev pub add_end : ℕ → ℕ → Link → ℕ → ℕ
 add_end f i l n = cond (l.a == n) (bit_or f (2 ^ (2 * i))) (cond (l.b == n) (bit_or f (2 ^ (2 * i + 1))) f)
 
--- the set f with every port of a node at the links, numbered from i on
+-- the set s with every port of a node at the links, numbered from i on
+abbrev pub with_ends : PortSet → ℕ → List Link → ℕ → PortSet
+with_ends s i ls n = fold (λ s p. record { bits = add_end s.bits p.0 p.1 n }) s (enumerate_from i ls)
+
+-- the same of a set told by its bits
 unfoldable pub end_ports : ℕ → ℕ → List Link → ℕ → ℕ
-end_ports f i [] n = f
-end_ports f i (l ∷ ls) n = end_ports (add_end f i l n) (i + 1) ls n
+end_ports f i ls n = (with_ends (record { bits = f }) i ls n).bits
 
 -- the ports of the one node that a pattern may stand for alone
 abbrev pub alone_ports : List Link → ℕ → List Item → ℕ

@@ -9,3 +9,5 @@ pub mod Found
 pub mod Paths
 pub mod Unions
 pub mod Routes
+pub mod Faults
+pub mod Searches

@@ -1,9 +1,11 @@
 -- What a pattern stands for.
-use Rattle.std.specs.Prelude.{◌≡◌, ℕ, ◌≤◌, Bool, true, false, List, [], ◌∷◌, ◌++◌, length}
+use Rattle.std.specs.Prelude.{◌≡◌, ℕ, ◌≤◌, Bool, true, List, [], ◌∷◌, ◌++◌, length, Some, None, Option}
+use Rattle.std.specs.List.{list_any}
 use Rattle.fixed.specs.Items.{items}
 use Rattle.paths.specs.declared.pattern.Item.{Item}
 use Rattle.paths.specs.declared.pattern.Item.TheVariants.{Node, Star}
 use Rattle.paths.specs.declared.pattern.Pattern.{Pattern}
+use Rattle.paths.specs.Live.{is_star}
 
 -- the items of a pattern, first to last
 abbrev pub items_of : Pattern → List Item
@@ -29,11 +31,16 @@ Blocks (i ∷ is) ns = Split (Block i) (Blocks is) ns
 
 -- whether there is a star among the items
 abbrev pub starred : List Item → Bool
-starred [] = false
-starred (Node m ∷ is) = starred is
-starred (Star ∷ is) = true
+starred is = list_any is_star is
 
 -- a pattern stands for nodes: with a star, for two or more
 pub record Stands (is : List Item) (ns : List ℕ) : Type 0 where
   pub blocks : Blocks is ns
   pub two : starred is ≡ true → 2 ≤ length ns
+
+-- the node that is the whole pattern, where it is one node
+abbrev pub lone : List Item → Option ℕ
+lone [] = None
+lone (Star ∷ is) = None
+lone (Node m ∷ []) = Some m
+lone (Node m ∷ i ∷ is) = None

@@ -1,20 +1,17 @@
 // The search of a whole site for the paths of a pattern.
-ghost use Rattle.std.specs.Prelude.{◌≡◌, ◌<◌, ◌≤◌, length, MatchResult};
+ghost use Rattle.std.specs.Prelude.{◌≡◌, ◌≤◌, length};
 ghost use Rattle.site.specs.Sites.{plan};
-ghost use Rattle.paths.specs.Found.{starting, end_ports, alone_ports, searched};
+ghost use Rattle.paths.specs.declared.finding.Fault.TheVariants.{TooMany};
+ghost use Rattle.paths.specs.Found.{with_ends, alone_ports, searched};
 ghost use Rattle.paths.specs.Paths.{Listed, Judged};
 ghost use Rattle.paths.specs.Patterns.{items_of};
-ghost use Rattle.paths.specs.Roads.{roads_in};
 ghost use Rattle.paths.specs.Tracking.{Tracked};
-ghost use Rattle.paths.specs.Walks.{Counted, Sound};
 
-use crate::live::at_start;
-use crate::pattern::{Item, Pattern};
+use crate::pattern::Pattern;
 use crate::ports::PortSet;
 use crate::roads::Roads;
-use crate::tally::{OverBudget, Tally};
-use crate::trail::Trail;
-use crate::walking::at_node;
+use crate::searching::Search;
+use crate::tally::OverBudget;
 use site::{Link, Site};
 
 // Why a pattern is refused: it has more than 65,536 partial paths, or no path matches it.
@@ -24,6 +21,14 @@ pub enum Fault {
     NoPath,
 }
 
+impl From<OverBudget> for Fault {
+    ghost from_gives = { λ _ f. f ≡ TooMany };
+
+    fn from(_over: OverBudget) -> Fault {
+        Fault::TooMany
+    }
+}
+
 // The ports that the paths of a pattern touch.
 pub fn search(site: &Site, pattern: &Pattern) -> Result<PortSet, Fault>
     ensures is { result ≡ searched (plan site.now).links (length (plan site.now).nodes) (items_of pattern.now) }
@@ -31,58 +36,26 @@ pub fn search(site: &Site, pattern: &Pattern) -> Result<PortSet, Fault>
     ensures listed { Listed (plan site.now).links (length (plan site.now).nodes) (items_of pattern.now) }
     ensures judged { Judged (plan site.now).links (length (plan site.now).nodes) (items_of pattern.now) result }
 {
-    let items = pattern.items();
-    let roads = Roads::new(site.links());
-    match from_each(&roads, items, site.node_count() as u8) {
-        Ok(tally) => {
-            let found = tally.found.union(alone(site, items));
-            if found.is_empty() {
-                Err(Fault::NoPath)
-            } else {
-                Ok(found)
-            }
-        }
-        Err(_) => Err(Fault::TooMany),
+    let roads = Roads::new(site);
+    let tally = Search {
+        roads: &roads,
+        pattern,
     }
-}
-
-// The tally of the partial paths from each node.
-fn from_each(roads: &Roads, items: &[Item], nodes: u8) -> Result<Tally, OverBudget>
-    requires few { length items.now ≤ 12 }
-    requires sound { Sound (roads_in roads.now) }
-    requires within { nodes ≤ 48 }
-    ensures { MatchResult result (λ e. Counted (length items.now) (record { count = 0; found = record { bits = 0 } }) 0 (starting items.now (roads_in roads.now) 0 nodes) e) (λ _. 65536 < length (starting items.now (roads_in roads.now) 0 nodes)) }
-{
-    let live = at_start(items);
-    let mut trail = Trail::new();
-    let mut tally = Tally {
-        count: 0,
-        found: PortSet::empty(),
-    };
-    for node in 0..nodes {
-        at_node(
-            roads,
-            items,
-            &mut trail,
-            &mut tally,
-            node,
-            live,
-            PortSet::empty(),
-        )?;
+    .tally()?;
+    let found = tally.found().union(alone(site, pattern));
+    if found.is_empty() {
+        return Err(Fault::NoPath);
     }
-    Ok(tally)
+    Ok(found)
 }
 
 // The ports of the path of one node, where the pattern stands for one.
-fn alone(site: &Site, items: &[Item]) -> PortSet
-    ensures { result.bits ≡ alone_ports (plan site.now).links (length (plan site.now).nodes) items.now }
+#[tactic(auto, unfolding(crate::specs::Found::end_ports))]
+fn alone(site: &Site, pattern: &Pattern) -> PortSet
+    ensures { result.bits ≡ alone_ports (plan site.now).links (length (plan site.now).nodes) (items_of pattern.now) }
 {
-    match items {
-        [Item::Node(m)] => if (*m as usize) < site.node_count() {
-            ports_of(site.links(), *m)
-        } else {
-            PortSet::empty()
-        },
+    match pattern.lone() {
+        Some(node) if usize::from(node) < site.node_count() => ports_of(site.links(), node),
         _ => PortSet::empty(),
     }
 }
@@ -90,11 +63,12 @@ fn alone(site: &Site, items: &[Item]) -> PortSet
 // Every port of a node.
 fn ports_of(links: &[Link], node: u8) -> PortSet
     requires { length links.now ≤ 64 }
-    ensures { result.bits ≡ end_ports 0 0 links.now node }
+    ensures { result ≡ with_ends (record { bits = 0 }) 0 links.now node }
 {
-    let mut ports = PortSet::empty();
-    for (i, link) in links.iter().enumerate() {
-        ports = ports.with_end(i as u8, *link, node);
-    }
-    ports
+    links
+        .iter()
+        .enumerate()
+        .fold(PortSet::empty(), |ports, (i, link)| {
+            ports.with_end(i as u8, *link, node)
+        })
 }

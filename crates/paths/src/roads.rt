@@ -1,5 +1,7 @@
 // The ways on from each node, so that a search tries a node's own links alone.
-ghost use Rattle.std.specs.Prelude.{◌≡◌, length};
+ghost use Rattle.std.specs.Prelude.{◌≡◌, ◌≤◌, map, length};
+ghost use Rattle.fixed.specs.Items.{items};
+ghost use Rattle.paths.specs.Walks.{Sound};
 
 mod index;
 
@@ -12,8 +14,12 @@ pub(crate) struct Step {
     pub(crate) node: u8,
 }
 
+// The ways on over a site's links, and how many nodes it has.
 #[derive(Drop)]
 pub(crate) struct Roads {
     of: [Table<Step, 64>; 48],
+    pub(crate) nodes: u8,
     ghost whole: { length of ≡ 48 },
+    ghost sound: { Sound (map items of) },
+    ghost few: { nodes ≤ 48 },
 }

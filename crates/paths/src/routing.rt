@@ -1,114 +1,100 @@
 // The search for one path that touches a port: at a node, and along its links.
-ghost use Rattle.std.specs.Prelude.{◌≡◌, ◌+◌, ◌<◌, ◌≤◌, false, ◌&&◌, ◌||◌, [], length, ◌==◌, slice_index_or};
-ghost use Rattle.paths.specs.Digits.{has};
-ghost use Rattle.paths.specs.Roads.{roads_in};
-ghost use Rattle.paths.specs.Routes.{first_hit, Drawn};
-ghost use Rattle.paths.specs.Walks.{free, walks, beyond, Sound};
+ghost use Rattle.std.specs.Prelude.{◌≡◌, ◌+◌, ◌<◌, ◌≤◌, false, Some, slice_index_or};
+ghost use Rattle.paths.specs.Routes.{without, first_hit, Drawn};
+ghost use Rattle.paths.specs.Searches.{last_of, all_walks_of, walks_at, walks_past};
+ghost use Rattle.paths.specs.Walks.{free};
 
-use crate::live::{after_node, is_live};
-use crate::pattern::Item;
-use crate::roads::Roads;
+use crate::node::Node;
+use crate::searching::Search;
 use crate::trail::{Mark, Trail};
 
-// The end of the path under search: its node and the number of that, the live positions, and whether the link was met.
+// The end of the path under search: its node and the number of that, the live positions, and the link that is still to be met.
+// Beside walking.rt's Tip and walk: those count every partial path under a budget and gather ports, these stop at the first hit and write it on the way back.
 #[derive(Clone, Copy)]
-pub(crate) struct Tip {
-    pub(crate) node: u8,
-    pub(crate) depth: usize,
-    pub(crate) live: u16,
-    pub(crate) met: bool,
+struct Tip {
+    node: Node,
+    depth: usize,
+    live: u16,
+    unmet: Option<u8>,
 }
 
-// Goes on to the tip's node, from the live positions before it; once a path is found, its nodes from there on are written.
-#[cycle(find_along_links_find_at_node)]
-pub(crate) fn find_at_node(
-    roads: &Roads,
-    items: &[Item],
-    link: u8,
-    trail: &mut Trail,
-    out: &mut [u8],
-    tip: Tip,
-) -> Option<usize>
-    requires few { length items.now ≤ 12 }
-    requires sound { Sound (roads_in roads.now) }
-    requires long { length trail.old.marked ≡ 48 }
-    requires room { 48 ≤ length out.old }
-    requires deep { tip.depth + free trail.old.marked ≤ 48 }
-    requires within { tip.node < 48 }
-    requires fresh { slice_index_or trail.old.marked tip.node false ≡ false }
-    ensures trail { trail.new ≡ trail.old }
-    ensures drawn { Drawn 0 tip.depth (first_hit (length items.now) link tip.met (walks items.now (roads_in roads.now) trail.old.marked tip.node tip.live)) out.old result out.new }
-{
-    let live = after_node(items, tip.live, tip.node);
-    if live == 0 {
-        return None;
-    }
-    if ends_here(live, items.len(), tip.met) {
-        out[tip.depth] = tip.node;
-        return Some(tip.depth + 1);
-    }
-    trail.mark(tip.node);
-    let guard = Mark {
-        trail,
-        node: tip.node,
-    };
-    let onward = Tip {
-        node: tip.node,
-        depth: tip.depth + 1,
-        live,
-        met: tip.met,
-    };
-    let len = find_along_links(roads, items, link, guard.trail, out, onward)?;
-    out[tip.depth] = tip.node;
-    Some(len)
-}
-
-// Tries each way on from the tip's node, from the live positions after it; `depth` is the number of the next node.
-#[cycle(find_along_links_find_at_node)]
-fn find_along_links(
-    roads: &Roads,
-    items: &[Item],
-    link: u8,
-    trail: &mut Trail,
-    out: &mut [u8],
-    tip: Tip,
-) -> Option<usize>
-    requires few { length items.now ≤ 12 }
-    requires sound { Sound (roads_in roads.now) }
-    requires long { length trail.old.marked ≡ 48 }
-    requires room { 48 ≤ length out.old }
-    requires deep { tip.depth + free trail.old.marked ≤ 48 }
-    requires within { tip.node < 48 }
-    ensures trail { trail.new ≡ trail.old }
-    ensures drawn { Drawn 1 tip.depth (first_hit (length items.now) link tip.met (beyond items.now (roads_in roads.now) trail.old.marked tip.node tip.live (slice_index_or (roads_in roads.now) tip.node []))) out.old result out.new }
-{
-    for step in roads.at(tip.node) {
-        if !trail.has(step.node) {
-            let met = takes(tip.met, step.link, link);
-            let next = Tip {
-                node: step.node,
-                depth: tip.depth,
-                live: tip.live,
-                met,
+impl Search<'_> {
+    // A path of two nodes or more by a link, whichever node it starts from; its nodes are written.
+    pub(crate) fn path_by(&self, link: u8, out: &mut [u8; 48]) -> Option<usize>
+        ensures { Drawn 0 0 (first_hit (last_of self.now) (Some link) (all_walks_of self.now)) out.old result out.new }
+    {
+        let live = self.pattern.at_start();
+        let mut trail = Trail::new();
+        // Loops here and below: of what a chain's closure changes, a proof would know nothing.
+        for number in 0..self.roads.nodes {
+            let tip = Tip {
+                node: Node { number },
+                depth: 0,
+                live,
+                unmet: Some(link),
             };
-            if let Some(len) = find_at_node(roads, items, link, trail, out, next) {
+            if let Some(len) = self.find_at_node(&mut trail, out, tip) {
                 return Some(len);
             }
         }
+        None
     }
-    None
+
+    // Goes on to the tip's node, from the live positions before it; once a path is found, its nodes from there on are written.
+    #[cycle(find)]
+    fn find_at_node(&self, trail: &mut Trail, out: &mut [u8; 48], tip: Tip) -> Option<usize>
+        requires deep { tip.depth + free trail.old.marked ≤ 48 }
+        requires fresh { slice_index_or trail.old.marked tip.node.number false ≡ false }
+        ensures trail { trail.new.marked ≡ trail.old.marked }
+        ensures drawn { Drawn 0 tip.depth (first_hit (last_of self.now) tip.unmet (walks_at self.now trail.old.marked tip.node.number tip.live)) out.old result out.new }
+    {
+        let live = self.pattern.after_node(tip.live, tip.node.number);
+        if live == 0 {
+            return None;
+        }
+        if self.pattern.stands(live) && tip.unmet.is_none() {
+            out[tip.depth] = tip.node.number;
+            return Some(tip.depth + 1);
+        }
+        trail.mark(tip.node);
+        let guard = Mark {
+            trail,
+            node: tip.node,
+        };
+        let onward = Tip {
+            depth: tip.depth + 1,
+            live,
+            ..tip
+        };
+        let len = self.find_along_links(guard.trail, out, onward)?;
+        out[tip.depth] = tip.node.number;
+        Some(len)
+    }
+
+    // Tries each way on from the tip's node, from the live positions after it; `depth` is the number of the next node.
+    #[cycle(find)]
+    fn find_along_links(&self, trail: &mut Trail, out: &mut [u8; 48], tip: Tip) -> Option<usize>
+        requires deep { tip.depth + free trail.old.marked ≤ 48 }
+        ensures trail { trail.new.marked ≡ trail.old.marked }
+        ensures drawn { Drawn 1 tip.depth (first_hit (last_of self.now) tip.unmet (walks_past self.now trail.old.marked tip.node.number tip.live)) out.old result out.new }
+    {
+        for step in self.roads.at(tip.node) {
+            let node = Node { number: step.node };
+            if !trail.has(node) {
+                let unmet = without(tip.unmet, step.link);
+                let next = Tip { node, unmet, ..tip };
+                if let Some(len) = self.find_at_node(trail, out, next) {
+                    return Some(len);
+                }
+            }
+        }
+        None
+    }
 }
 
-// Whether a path ends here: it matches, and it has met the link.
-fn ends_here(live: u16, last: usize, met: bool) -> bool
-    requires { last < 16 }
-    ensures { result ≡ (has live last && met) }
+// What is still to be met after a link.
+fn without(unmet: Option<u8>, link: u8) -> Option<u8>
+    ensures { result ≡ without unmet link }
 {
-    is_live(live, last) && met
-}
-
-fn takes(met: bool, step: u8, link: u8) -> bool
-    ensures { result ≡ (met || step == link) }
-{
-    met || step == link
+    if unmet == Some(link) { None } else { unmet }
 }

@@ -1,10 +1,13 @@
 // The trail: which nodes the path under search is already on.
-ghost use Rattle.std.specs.Prelude.{◌≡◌, ◌<◌, true, false, slice_index_or, slice_set};
+ghost use Rattle.std.specs.Prelude.{◌≡◌, true, false, length, slice_index_or, slice_set};
 ghost use Rattle.paths.specs.Walks.{unmarked};
+
+use crate::node::Node;
 
 #[derive(Drop)]
 pub(crate) struct Trail {
     marked: [bool; 48],
+    ghost whole: { length marked ≡ 48 },
 }
 
 impl Trail {
@@ -16,38 +19,34 @@ impl Trail {
         }
     }
 
-    pub(crate) fn has(&self, node: u8) -> bool
-        requires { node < 48 }
-        ensures { result ≡ slice_index_or self.now.marked node false }
+    pub(crate) fn has(&self, node: Node) -> bool
+        ensures { result ≡ slice_index_or self.now.marked node.number false }
     {
-        self.marked[node as usize]
+        self.marked[usize::from(node.number)]
     }
 
-    pub(crate) fn mark(&mut self, node: u8)
-        requires { node < 48 }
-        ensures { self.new ≡ record { marked = slice_set self.old.marked node true } }
+    pub(crate) fn mark(&mut self, node: Node)
+        ensures { self.new.marked ≡ slice_set self.old.marked node.number true }
     {
-        self.marked[node as usize] = true;
+        self.marked[usize::from(node.number)] = true;
     }
 
-    fn clear(&mut self, node: u8)
-        requires { node < 48 }
-        ensures { self.new ≡ record { marked = slice_set self.old.marked node false } }
+    fn clear(&mut self, node: Node)
+        ensures { self.new.marked ≡ slice_set self.old.marked node.number false }
     {
-        self.marked[node as usize] = false;
+        self.marked[usize::from(node.number)] = false;
     }
 }
 
 // A node of the trail while it lives: at its end, on every way out, the node is cleared.
 pub(crate) struct Mark<'a> {
     pub(crate) trail: &'a mut Trail,
-    pub(crate) node: u8,
+    pub(crate) node: Node,
 }
 
 impl Drop for Mark<'_> {
     fn drop(self)
-        requires { self.node < 48 }
-        ensures { self.exit.0.now ≡ record { marked = slice_set self.entry.trail.now.marked self.entry.node false } }
+        ensures { self.exit.0.now.marked ≡ slice_set self.entry.trail.now.marked self.entry.node.number false }
     {
         let node = self.node;
         self.trail.clear(node);

@@ -8,17 +8,14 @@ use site::Site;
 // Answers how many ports are touched, 1000 for too many partial paths, 1001 for no path, 1002 for a bad map.
 #[unsafe(no_mangle)]
 pub extern "C" fn paths_bench_search(map: &[u8], items: &[u8], times: u32) -> u64 {
-    match Site::read(map) {
-        Ok(site) => {
-            let pattern = pattern(items);
-            let mut answer = 1002;
-            for _ in 0..times {
-                answer = told(&site, search(&site, &pattern));
-            }
-            answer
+    let mut answer = 1002;
+    if let Ok(site) = Site::read(map) {
+        let pattern = pattern(items);
+        for _ in 0..times {
+            answer = told(&site, search(&site, &pattern));
         }
-        Err(_) => 1002,
     }
+    answer
 }
 
 fn pattern(items: &[u8]) -> Pattern {
@@ -33,6 +30,7 @@ fn pattern(items: &[u8]) -> Pattern {
     made
 }
 
+// Numbers in place of an enum, since that is what C reads.
 fn told(site: &Site, answer: Result<PortSet, Fault>) -> u64 {
     match answer {
         Ok(ports) => count(site, &ports),
@@ -41,28 +39,11 @@ fn told(site: &Site, answer: Result<PortSet, Fault>) -> u64 {
     }
 }
 
+// A site has at most 64 links.
 fn count(site: &Site, ports: &PortSet) -> u64 {
-    let mut all: u64 = 0;
-    for (i, link) in site.links().iter().enumerate() {
-        let number = (i % 64) as u8;
-        all = all.wrapping_add(one(ports.contains(
-            site,
-            Port {
-                link: number,
-                node: link.a,
-            },
-        )));
-        all = all.wrapping_add(one(ports.contains(
-            site,
-            Port {
-                link: number,
-                node: link.b,
-            },
-        )));
-    }
-    all
-}
-
-fn one(there: bool) -> u64 {
-    if there { 1 } else { 0 }
+    (0..64)
+        .zip(site.links())
+        .flat_map(|(link, ends)| [ends.a, ends.b].map(|node| Port { link, node }))
+        .filter(|port| ports.contains(site, *port))
+        .count() as u64
 }

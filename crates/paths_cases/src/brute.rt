@@ -1,8 +1,10 @@
 // Random sites of two to five nodes, with random patterns: each answer against a trial of every order of the nodes.
-use crate::answer::{NO_PATH, pattern, told, twice};
+use crate::answer::{mask, pattern, told};
 use crate::draft::Map;
-use paths::{Item, search};
+use fixed::Table;
+use paths::{Fault, Item};
 use site::{Link, Site};
+use std::alloc::{AllocError, Global};
 
 pub const ALL: usize = 200;
 
@@ -23,20 +25,20 @@ impl Dice {
 }
 
 // A row of nodes, each linked to the next, and some links more.
-fn site(dice: &mut Dice, nodes: u8) -> Map {
-    let mut map = Map::new();
+fn site(alloc: Global, dice: &mut Dice, nodes: u8) -> Result<Map, AllocError> {
+    let mut map = Map::new(alloc);
     for n in 0..nodes {
-        map.node(n);
+        map.node(n)?;
     }
     for n in 0..nodes {
         for m in 0..n {
             if n - m == 1 || dice.roll(2) == 0 {
-                map.link(n, m);
+                map.link(n, m)?;
             }
         }
     }
-    map.finish();
-    map
+    map.finish()?;
+    Ok(map)
 }
 
 fn items(dice: &mut Dice, nodes: u8) -> [Item; 4] {
@@ -50,144 +52,92 @@ fn items(dice: &mut Dice, nodes: u8) -> [Item; 4] {
     made
 }
 
-// Up to five nodes in a row.
-#[derive(Clone, Copy)]
-struct Row {
-    nodes: [u8; 5],
-    len: usize,
-}
-
 // The row that a number stands for: its digits, in base one more than the nodes there are, up to a digit past them.
-fn decode(code: u32, nodes: u8) -> Row {
-    let mut made = Row {
-        nodes: [0; 5],
-        len: 0,
-    };
+fn row(code: u32, nodes: u8) -> Table<u8, 5> {
+    let mut made = Table::new(0);
     let mut rest = code;
     let base = nodes as u32 + 1;
-    let mut open = true;
-    for i in 0..5 {
+    for _ in 0..5 {
         let digit = (rest % base % 256) as u8;
-        rest /= base;
-        open = open && digit < nodes;
-        if open {
-            made.nodes[i] = digit;
-            made.len = i + 1;
+        if digit >= nodes {
+            break;
         }
+        let _ = made.push(digit);
+        rest /= base;
     }
     made
 }
 
-fn joins(link: Link, m: u8, n: u8) -> bool {
-    link.a == m && link.b == n || link.a == n && link.b == m
-}
-
-// The bits of the ports of the link between two nodes; 0 where there is none.
-fn between(links: &[Link], m: u8, n: u8) -> u64 {
-    let mut value = 3;
-    let mut bits = 0;
-    for link in links {
-        if joins(*link, m, n) {
-            bits = value;
-        }
-        value = twice(twice(value));
+// The ports that the row touches, where it is a path.
+fn ports(links: &[Link], row: &[u8]) -> Option<u64> {
+    if let [n] = row {
+        return Some(mask(links, |_, link| [link.a == *n, link.b == *n]));
     }
-    bits
-}
-
-fn at(links: &[Link], n: u8) -> u64 {
-    let mut value = 1;
     let mut bits = 0;
-    for link in links {
-        if link.a == n {
-            bits |= value;
+    let mut last: Option<u8> = None;
+    for (i, n) in row.iter().enumerate() {
+        if row.iter().take(i).any(|m| m == n) {
+            return None;
         }
-        value = twice(value);
-        if link.b == n {
-            bits |= value;
-        }
-        value = twice(value);
-    }
-    bits
-}
-
-// The ports that the row touches; 0 where it is no path.
-fn ports(links: &[Link], row: Row) -> u64 {
-    let mut bits = 0;
-    if row.len == 1 {
-        bits = at(links, row.nodes[0]);
-    }
-    let mut path = true;
-    for i in 1..5 {
-        if i < row.len {
-            let link = between(links, row.nodes[i - 1], row.nodes[i]);
-            path = path && link != 0;
+        if let Some(m) = last {
+            let link = mask(links, |_, link| [link.joins(m, *n); 2]);
+            if link == 0 {
+                return None;
+            }
             bits |= link;
-            for j in 0..i {
-                path = path && row.nodes[j] != row.nodes[i];
-            }
         }
+        last = Some(*n);
     }
-    if path { bits } else { 0 }
+    Some(bits)
 }
 
-// Which beginnings of the row the items so far stand for.
-fn stands(items: &[Item], row: Row) -> bool {
-    let mut reach = [true, false, false, false, false, false];
-    let mut starred = false;
-    for item in items {
-        let mut next = [false; 6];
-        match item {
-            Item::Node(m) => {
-                for j in 0..5 {
-                    next[j + 1] = reach[j] && row.nodes[j] == *m;
-                }
-            }
-            Item::Star => {
-                starred = true;
-                let mut before = false;
-                for j in 0..6 {
-                    before = before || reach[j];
-                    next[j] = before;
-                }
-            }
-        }
-        reach = next;
+// Whether the row is one block after another, one for each item: a star takes none of its nodes, or one more.
+fn blocks(items: &[Item], row: &[u8]) -> bool {
+    match (items, row) {
+        ([], _) => row.is_empty(),
+        ([Item::Node(m), rest @ ..], [n, after @ ..]) => m == n && blocks(rest, after),
+        ([Item::Star, rest @ ..], [_, after @ ..]) => blocks(rest, row) || blocks(items, after),
+        ([Item::Star, rest @ ..], []) => blocks(rest, row),
+        ([Item::Node(_), ..], []) => false,
     }
-    row.len < 6 && reach[row.len] && (!starred || row.len > 1)
 }
 
-fn expected(links: &[Link], nodes: u8, items: &[Item]) -> u64 {
+// Whether the items stand for the row: with a star, for two nodes or more.
+fn stands(items: &[Item], row: &[u8]) -> bool {
+    blocks(items, row) && (row.len() > 1 || !items.contains(&Item::Star))
+}
+
+fn expected(links: &[Link], nodes: u8, items: &[Item]) -> Result<u64, Fault> {
     let mut bits = 0;
     for code in 0..7776 {
-        let made = decode(code, nodes);
-        if made.len > 0 && stands(items, made) {
-            bits |= ports(links, made);
+        let made = row(code, nodes);
+        if stands(items, made.as_slice()) {
+            bits |= ports(links, made.as_slice()).unwrap_or(0);
         }
     }
-    if bits == 0 { NO_PATH } else { bits }
+    if bits == 0 {
+        Err(Fault::NoPath)
+    } else {
+        Ok(bits)
+    }
 }
 
-fn agrees(dice: &mut Dice) -> bool {
+fn agrees(alloc: Global, dice: &mut Dice) -> Result<bool, AllocError> {
     let nodes = dice.roll(4) % 4 + 2;
-    let map = site(dice, nodes);
+    let map = site(alloc, dice, nodes)?;
     let all = items(dice, nodes);
     let count = dice.roll(4) as usize % 4 + 1;
     let some = &all[0..count];
-    match Site::read(map.as_slice()) {
-        Ok(site) => told(&site, search(&site, &pattern(some)))
-            == expected(site.links(), nodes, some),
-        Err(_) => false,
-    }
+    Ok(Site::read(map.as_slice()).is_ok_and(|site| {
+        told(&site, &pattern(some)) == expected(site.links(), nodes, some)
+    }))
 }
 
-pub fn agreeing() -> usize {
+pub fn agreeing(alloc: Global) -> Result<usize, AllocError> {
     let mut dice = Dice { state: 2026 };
-    let mut good: usize = 0;
+    let mut good = 0;
     for _ in 0..ALL {
-        if agrees(&mut dice) {
-            good = good.saturating_add(1);
-        }
+        good += usize::from(agrees(alloc, &mut dice)?);
     }
-    good
+    Ok(good)
 }

@@ -12,26 +12,20 @@ use std::io;
 
 // Prints each case that is answered otherwise, and how many are not.
 fn worked_cases(rt: &HostRuntime) -> io::Result<()> {
-    let mut good: usize = 0;
-    for case in worked::CASES.iter() {
-        if case.agrees() {
-            good = good.saturating_add(1);
-        } else {
-            let shows = case.shows;
-            println!(rt; "answered otherwise: {shows}")?;
-        }
+    for case in worked::CASES.iter().filter(|case| !case.agrees()) {
+        println!(rt; "answered otherwise: {}", case.shows)?;
     }
-    let all = worked::CASES.len();
-    println!(rt; "worked site: {good} of {all}")
+    let good = worked::CASES.iter().filter(|case| case.agrees()).count();
+    println!(rt; "worked site: {good} of {}", worked::CASES.len())
 }
 
 fn main(rt: HostRuntime) -> io::Result<()> {
     worked_cases(&rt)?;
-    let good = draw::agreeing();
-    println!(rt; "paths drawn on the worked site: {good} of 5")?;
-    let good = cliques::agreeing();
-    println!(rt; "budget: {good} of 4")?;
-    let good = brute::agreeing();
-    let all = brute::ALL;
-    println!(rt; "random sites against all orders of their nodes: {good} of {all}")
+    println!(rt; "paths drawn on the worked site: {} of 5", draw::agreeing())?;
+    println!(rt; "budget: {} of 4", cliques::agreeing(rt.alloc())?)?;
+    let good = brute::agreeing(rt.alloc())?;
+    println!(rt;
+        "random sites against all orders of their nodes: {good} of {}",
+        brute::ALL
+    )
 }

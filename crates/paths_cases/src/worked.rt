@@ -1,6 +1,6 @@
 // The worked site: links gate-barn, barn-mill, mill-hill and barn-hill.
-use crate::answer::{NO_PATH, answer};
-use paths::Item;
+use crate::answer::answer;
+use paths::{Fault, Item};
 
 pub static MAP: [u8; 91] =
     *b"\x01\x00\x04gate\x01\x00\x04barn\x01\x00\x04mill\x01\x00\x04hill\x02\x00\x02\x00\x01\x02\x00\x02\x01\x02\x02\x00\x02\x02\x03\x02\x00\x02\x01\x03\x03\x00\x04data\x03\x00\x05voice\x03\x00\x05video\x04\x00\x05\x01boss\x04\x00\x05\x03ward\x05\x00\x01\x01";
@@ -19,12 +19,12 @@ pub const STAR: Item = Item::Star;
 pub struct Case {
     pub shows: &'static str,
     items: &'static [Item],
-    told: u64,
+    told: Result<u64, Fault>,
 }
 
 impl Case {
     pub fn agrees(&self) -> bool {
-        answer(&MAP, self.items) == self.told
+        answer(&MAP, self.items) == Some(self.told)
     }
 }
 
@@ -32,88 +32,88 @@ pub static CASES: [Case; 17] = [
     Case {
         shows: "both ways from gate to hill",
         items: &[GATE, STAR, HILL],
-        told: 0b11_11_11_11,
+        told: Ok(0b11_11_11_11),
     },
     Case {
         shows: "no path comes back",
         items: &[BARN, STAR, BARN],
-        told: NO_PATH,
+        told: Err(Fault::NoPath),
     },
     Case {
         shows: "nodes that are not linked",
         items: &[GATE, MILL],
-        told: NO_PATH,
+        told: Err(Fault::NoPath),
     },
     Case {
         shows: "one link",
         items: &[GATE, BARN],
-        told: 0b00_00_00_11,
+        told: Ok(0b00_00_00_11),
     },
     Case {
         shows: "the same link, the other way",
         items: &[BARN, GATE],
-        told: 0b00_00_00_11,
+        told: Ok(0b00_00_00_11),
     },
     Case {
         shows: "one node touches its own ports alone",
         items: &[MILL],
-        told: 0b00_01_10_00,
+        told: Ok(0b00_01_10_00),
     },
     Case {
         shows: "a node with three links",
         items: &[BARN],
-        told: 0b01_00_01_10,
+        told: Ok(0b01_00_01_10),
     },
     Case {
         shows: "a star stands for no single node",
         items: &[STAR, GATE],
-        told: 0b11_11_11_11,
+        told: Ok(0b11_11_11_11),
     },
     Case {
         shows: "a star before and after one node",
         items: &[STAR, MILL, STAR],
-        told: 0b11_11_11_11,
+        told: Ok(0b11_11_11_11),
     },
     Case {
         shows: "a star alone",
         items: &[STAR],
-        told: 0b11_11_11_11,
+        told: Ok(0b11_11_11_11),
     },
     Case {
         shows: "a star between neighbours may stand for none",
         items: &[GATE, STAR, BARN],
-        told: 0b00_00_00_11,
+        told: Ok(0b00_00_00_11),
     },
     Case {
         shows: "two stars side by side",
         items: &[MILL, STAR, STAR, HILL],
-        told: 0b11_11_11_00,
+        told: Ok(0b11_11_11_00),
     },
     Case {
         shows: "all twelve items stars",
         items: &[
             STAR, STAR, STAR, STAR, STAR, STAR, STAR, STAR, STAR, STAR, STAR, STAR,
         ],
-        told: 0b11_11_11_11,
+        told: Ok(0b11_11_11_11),
     },
     Case {
         shows: "an exact path of three",
         items: &[GATE, BARN, HILL],
-        told: 0b11_00_00_11,
+        told: Ok(0b11_00_00_11),
     },
     Case {
         shows: "more nodes than the site has",
         items: &[GATE, BARN, MILL, HILL, BARN],
-        told: NO_PATH,
+        told: Err(Fault::NoPath),
     },
     Case {
         shows: "a node that is not declared",
         items: &[Item::Node(4)],
-        told: NO_PATH,
+        told: Err(Fault::NoPath),
     },
     Case {
         shows: "a pattern of no item",
         items: &[],
-        told: NO_PATH,
+        told: Err(Fault::NoPath),
     },
 ];

@@ -1,29 +1,31 @@
 // The index of ways on: made from the links, asked by node.
-ghost use Rattle.std.specs.Prelude.{◌≡◌, ◌<◌, ◌≤◌, [], length, slice_index_or};
+ghost use Rattle.std.specs.Prelude.{◌≡◌, ◌≤◌, [], length, slice_index_or};
 ghost use Rattle.fixed.specs.Items.{items};
-ghost use Rattle.paths.specs.Roads.{far_end, steps_of, roads_over, roads_in};
+ghost use Rattle.site.specs.Sites.{plan};
+ghost use Rattle.paths.specs.Roads.{steps_of, roads_over, roads_in};
 
 use super::{Roads, Step};
+use crate::node::Node;
 use fixed::Table;
-use site::Link;
+use site::{Link, Site};
+use std::array;
 
 impl Roads {
-    pub(crate) fn new(links: &[Link]) -> Roads
-        requires { length links.now ≤ 64 }
-        ensures { roads_in result ≡ roads_over links.now }
+    pub(crate) fn new(site: &Site) -> Roads
+        ensures ways { roads_in result ≡ roads_over (plan site.now).links }
+        ensures nodes { result.nodes ≡ length (plan site.now).nodes }
     {
-        let mut of = [Table::new(Step { link: 0, node: 0 }); 48];
-        for node in 0..48u8 {
-            of[node as usize] = steps_of(links, node);
+        let links = site.links();
+        Roads {
+            of: array::from_fn(|node| steps_of(links, node as u8)),
+            nodes: site.node_count() as u8,
         }
-        Roads { of }
     }
 
-    pub(crate) fn at(&self, node: u8) -> &[Step]
-        requires { node < 48 }
-        ensures { result.now ≡ slice_index_or (roads_in self.now) node [] }
+    pub(crate) fn at(&self, node: Node) -> &[Step]
+        ensures { result.now ≡ slice_index_or (roads_in self.now) node.number [] }
     {
-        self.of[node as usize].as_slice()
+        self.of[usize::from(node.number)].as_slice()
     }
 }
 
@@ -31,26 +33,15 @@ fn steps_of(links: &[Link], node: u8) -> Table<Step, 64>
     requires { length links.now ≤ 64 }
     ensures { items result ≡ steps_of 0 links.now node }
 {
+    // A loop: a chain does not collect into a Table.
     let mut steps = Table::new(Step { link: 0, node: 0 });
     for (i, link) in links.iter().enumerate() {
-        if let Some(far) = far_end(*link, node) {
+        if link.ends_at(node) {
             let _ = steps.push(Step {
                 link: i as u8,
-                node: far,
+                node: link.far_end(node),
             });
         }
     }
     steps
-}
-
-fn far_end(link: Link, node: u8) -> Option<u8>
-    ensures { result ≡ far_end link node }
-{
-    if link.a == node {
-        Some(link.b)
-    } else if link.b == node {
-        Some(link.a)
-    } else {
-        None
-    }
 }

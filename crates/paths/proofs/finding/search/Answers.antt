@@ -1,63 +1,51 @@
-use Rattle.std.proofs.Common.{◌≡◌, ◌≤◌, length, sym, ap, ◌∙◌, subst, arith}
-use Rattle.fixed.proofs.Held.{items_within}
+use Rattle.std.proofs.Common.{◌≡◌, List, length, Err, Result, sym, ap, ◌∙◌, subst}
+use Rattle.std.proofs.lemmas.Result.{err_from_is_err_and}
+use Rattle.site.specs.declared.sealed.Site.{Site}
 use Rattle.site.specs.Sites.{plan}
-use Rattle.paths.specs.Paths.{Judged}
+use Rattle.paths.specs.declared.finding.Fault.{Fault}
+use Rattle.paths.specs.declared.pattern.Item.{Item}
+use Rattle.paths.specs.declared.ports.PortSet.{PortSet}
+use Rattle.paths.specs.Found.{searched}
+use Rattle.paths.specs.Paths.{Listed, Judged}
 use Rattle.paths.specs.Patterns.{items_of}
-use Rattle.paths.specs.Roads.{roads_over, roads_in}
-use Rattle.paths.specs.Walks.{Sound}
-use Rattle.paths.proofs.Ways.{roads_sound}
+use Rattle.paths.specs.Roads.{roads_in}
 use Rattle.paths.proofs.Answering.{few_answered, many_answered, answered_none, answered_some}
+use Rattle.paths.proofs.Nodes.{node_count_within}
 use Rattle.paths.proofs.Partials.{listed}
 use Rattle.paths.proofs.Standing.{tracked}
 use Rattle.paths.proofs.Touching.{judged}
 use Rattle.paths.proofs.finding.search.Goals as goal
 
-pub from_each-requires : goal.from_each-requires
-from_each-requires c =
-    let roads : roads_in c.new-roads.result ≡ roads_over (plan c.args.site.now).links = c.new-roads.ensures ∙ ap roads_over c.links.ensures in
-    record {
-      few = omega (arith, ap length c.items-items.ensures, items_within c.args.pattern.now.items);
-      sound = subst Sound (sym roads) (roads_sound (length (plan c.args.site.now).nodes) (plan c.args.site.now).links (omega (arith, c.node_count.ensures.is, c.node_count.ensures.within)) (items_within c.args.site.now.draft.links) c.args.site.now.two_ended);
-      within = c.node_count.ensures.within;
-    }
+-- On any site the walks are the partial paths, and the answer that is searched for is right.
+module _ (s : Site) (items : List Item) where
+  all_listed : Listed (plan s).links (length (plan s).nodes) items
+  all_listed = listed (length (plan s).nodes) (plan s).links (node_count_within s) s.two_ended items s.«unrepeated»
+
+  judges : (r : Result PortSet Fault) → searched (plan s).links (length (plan s).nodes) items ≡ r → Judged (plan s).links (length (plan s).nodes) items r
+  judges r is =
+      subst (Judged (plan s).links (length (plan s).nodes) items) is
+      (judged (length (plan s).nodes) (plan s).links (node_count_within s) s.two_ended s.«unrepeated» items s.all_linked)
+
+pub returns-in_err-tally : goal.returns-in_err-tally
+returns-in_err-tally c =
+    let items = items_of c.args.pattern.now in
+    let p = err_from_is_err_and c.from_residual.result c.from_residual.ensures.1 in
+    let is = many_answered (plan c.args.site.now).links (length (plan c.args.site.now).nodes) c.new-roads.result.nodes items (roads_in c.new-roads.result) c.new-roads.ensures.ways c.new-roads.ensures.nodes c.in_err-tally.ensures
+    ∙ sym (p.1 ∙ ap Err p.2) in
+    record { is = sym is; tracked = tracked items; listed = all_listed c.args.site.now items; judged = judges c.args.site.now items c.from_residual.result is }
 
 pub returns-then-is_empty : goal.returns-then-is_empty
 returns-then-is_empty c =
-    let roads : roads_in c.new-roads.result ≡ roads_over (plan c.args.site.now).links = c.new-roads.ensures ∙ ap roads_over c.links.ensures in
-    let small : length (plan c.args.site.now).nodes ≤ 48 = omega (arith, c.node_count.ensures.is, c.node_count.ensures.within) in
-    let is = few_answered (plan c.args.site.now).links (length (plan c.args.site.now).nodes) c.node_count.result (items_of c.args.pattern.now) c.items-items.result.now (roads_in c.new-roads.result) roads c.node_count.ensures.is c.items-items.ensures c.in-Ok.tally c.alone.result.bits c.union-found.result.bits c.in-Ok.ensures c.alone.ensures c.union-found.ensures.bits
+    let items = items_of c.args.pattern.now in
+    let is = few_answered (plan c.args.site.now).links (length (plan c.args.site.now).nodes) c.new-roads.result.nodes items (roads_in c.new-roads.result) c.new-roads.ensures.ways c.new-roads.ensures.nodes
+    c.found.result.bits c.alone.result.bits c.union-found.result.bits c.in_ok-tally.ensures.0 (ap (λ (x : PortSet). x.bits) c.found.ensures ∙ c.in_ok-tally.ensures.1) c.alone.ensures c.union-found.ensures.bits
     ∙ answered_none c.union-found.result.bits (sym c.is_empty.ensures ∙ c.if-is_empty.true) in
-    record {
-      is = sym is;
-      tracked = tracked (items_of c.args.pattern.now);
-      listed = listed (length (plan c.args.site.now).nodes) (plan c.args.site.now).links small c.args.site.now.two_ended (items_of c.args.pattern.now) c.args.site.now.«unrepeated»;
-      judged = subst (Judged (plan c.args.site.now).links (length (plan c.args.site.now).nodes) (items_of c.args.pattern.now)) is
-          (judged (length (plan c.args.site.now).nodes) (plan c.args.site.now).links small c.args.site.now.two_ended c.args.site.now.«unrepeated» (items_of c.args.pattern.now) c.args.site.now.all_linked);
-    }
+    record { is = sym is; tracked = tracked items; listed = all_listed c.args.site.now items; judged = judges c.args.site.now items _ is }
 
-pub returns-else-is_empty : goal.returns-else-is_empty
-returns-else-is_empty c =
-    let roads : roads_in c.new-roads.result ≡ roads_over (plan c.args.site.now).links = c.new-roads.ensures ∙ ap roads_over c.links.ensures in
-    let small : length (plan c.args.site.now).nodes ≤ 48 = omega (arith, c.node_count.ensures.is, c.node_count.ensures.within) in
-    let is = few_answered (plan c.args.site.now).links (length (plan c.args.site.now).nodes) c.node_count.result (items_of c.args.pattern.now) c.items-items.result.now (roads_in c.new-roads.result) roads c.node_count.ensures.is c.items-items.ensures c.in-Ok.tally c.alone.result.bits c.union-found.result.bits c.in-Ok.ensures c.alone.ensures c.union-found.ensures.bits
+pub returns : goal.returns
+returns c =
+    let items = items_of c.args.pattern.now in
+    let is = few_answered (plan c.args.site.now).links (length (plan c.args.site.now).nodes) c.new-roads.result.nodes items (roads_in c.new-roads.result) c.new-roads.ensures.ways c.new-roads.ensures.nodes
+    c.found.result.bits c.alone.result.bits c.union-found.result.bits c.in_ok-tally.ensures.0 (ap (λ (x : PortSet). x.bits) c.found.ensures ∙ c.in_ok-tally.ensures.1) c.alone.ensures c.union-found.ensures.bits
     ∙ answered_some c.union-found.result (sym c.is_empty.ensures ∙ c.if-is_empty.false) in
-    record {
-      is = sym is;
-      tracked = tracked (items_of c.args.pattern.now);
-      listed = listed (length (plan c.args.site.now).nodes) (plan c.args.site.now).links small c.args.site.now.two_ended (items_of c.args.pattern.now) c.args.site.now.«unrepeated»;
-      judged = subst (Judged (plan c.args.site.now).links (length (plan c.args.site.now).nodes) (items_of c.args.pattern.now)) is
-          (judged (length (plan c.args.site.now).nodes) (plan c.args.site.now).links small c.args.site.now.two_ended c.args.site.now.«unrepeated» (items_of c.args.pattern.now) c.args.site.now.all_linked);
-    }
-
-pub returns-in-Err : goal.returns-in-Err
-returns-in-Err c =
-    let roads : roads_in c.new-roads.result ≡ roads_over (plan c.args.site.now).links = c.new-roads.ensures ∙ ap roads_over c.links.ensures in
-    let small : length (plan c.args.site.now).nodes ≤ 48 = omega (arith, c.node_count.ensures.is, c.node_count.ensures.within) in
-    let is = many_answered (plan c.args.site.now).links (length (plan c.args.site.now).nodes) c.node_count.result (items_of c.args.pattern.now) c.items-items.result.now (roads_in c.new-roads.result) roads c.node_count.ensures.is c.items-items.ensures c.in-Err.ensures in
-    record {
-      is = sym is;
-      tracked = tracked (items_of c.args.pattern.now);
-      listed = listed (length (plan c.args.site.now).nodes) (plan c.args.site.now).links small c.args.site.now.two_ended (items_of c.args.pattern.now) c.args.site.now.«unrepeated»;
-      judged = subst (Judged (plan c.args.site.now).links (length (plan c.args.site.now).nodes) (items_of c.args.pattern.now)) is
-          (judged (length (plan c.args.site.now).nodes) (plan c.args.site.now).links small c.args.site.now.two_ended c.args.site.now.«unrepeated» (items_of c.args.pattern.now) c.args.site.now.all_linked);
-    }
+    record { is = sym is; tracked = tracked items; listed = all_listed c.args.site.now items; judged = judges c.args.site.now items _ is }

@@ -1,22 +1,25 @@
-use Rattle.std.proofs.Common.{refl, ◌∙◌, arith}
-use Rattle.std.proofs.lemmas.List.{length-set}
+use Rattle.std.proofs.Common.{rules, ◌≡◌, map, length, sym, subst}
 use Rattle.fixed.specs.Items.{items}
+use Rattle.fixed.proofs.Held.{items_within}
+use Rattle.site.specs.Sites.{plan}
 use Rattle.paths.specs.Roads.{steps_of, roads_over}
-use Rattle.paths.proofs.Ways.{fills_more, fills_all}
+use Rattle.paths.specs.Walks.{Sound}
+use Rattle.paths.proofs.Nodes.{node_count_within}
+use Rattle.paths.proofs.Ways.{calls_all, roads_sound}
 use Rattle.paths.proofs.roads.Roads.new.Goals as goal
 
-pub loop-node-init : goal.loop-node-init
-loop-node-init c = (refl, λ k d h. absurd (omega arith))
-
-pub loop-node-preserved : goal.loop-node-preserved
-loop-node-preserved c = (
-  length-set c.loop-node.of c.loop-node.node c.steps_of.result ∙ c.loop-node.invariant.0,
-  fills_more (steps_of 0 c.args.links.now) items c.loop-node.of c.loop-node.node c.steps_of.result (omega (arith, c.loop-node.invariant.0)) c.steps_of.ensures c.loop-node.invariant.1,
-)
-
 pub invariant_of-result : goal.invariant_of-result
-invariant_of-result c = record { whole = c.loop-node.invariant.0 }
-
-pub returns : goal.returns
 unfolding roads_over
-returns c = fills_all (steps_of 0 c.args.links.now) items c.loop-node.of 48 c.new-of.result c.loop-node.invariant.0 (λ k d h. c.loop-node.invariant.1 k d (omega arith))
+invariant_of-result c =
+    let links = (plan c.args.site.now).links in
+    let ways : map items c.from_fn.result ≡ roads_over links =
+    calls_all _ _ items (steps_of 0 links) c.from_fn.result 48 c.from_fn.ensures.items (λ k y q lt call. search rules) in
+    record {
+      whole = c.from_fn.ensures.items.long;
+      sound = subst Sound (sym ways) (roads_sound (length (plan c.args.site.now).nodes) links (node_count_within c.args.site.now) (items_within c.args.site.now.draft.links) c.args.site.now.two_ended);
+      few = c.node_count.ensures.within;
+    }
+
+pub returns-clause-ways : goal.returns-clause-ways
+unfolding roads_over
+returns-clause-ways c = calls_all _ _ items (steps_of 0 (plan c.args.site.now).links) c.from_fn.result 48 c.from_fn.ensures.items (λ k y q lt call. search rules)

@@ -1,7 +1,0 @@
-use Rattle.std.proofs.Common.{refl}
-use Rattle.paths.specs.Digits.{has}
-use Rattle.paths.proofs.ports.PortSet.at.Goals as goal
-
-pub returns : goal.returns
-unfolding has
-returns c = refl
