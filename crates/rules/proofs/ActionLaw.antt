@@ -8,12 +8,10 @@ use Rattle.std.proofs.lemmas.List.Sums.{prefix_len-le-length}
 use Rattle.std.proofs.lemmas.Bool.{ltb-false, le-ltb, cond-false}
 use Rattle.kind.specs.Digits.{digit, decimal}
 use Rattle.site.specs.declared.refusals.Refusal.{Refusal}
-use Rattle.sections.specs.declared.action.Stage.{Stage}
-use Rattle.sections.specs.declared.action.Stage.TheVariants.{Open, Action as AtAction, Becomes, Number, Close, Semicolon, Done}
 use Rattle.sections.specs.declared.action.Action.{Action}
 use Rattle.sections.specs.declared.action.Action.TheVariants.{Permit, Deny, Priority}
 use Rattle.words.specs.declared.signs.Sign.TheVariants as sign
-use Rattle.sections.specs.Actions.{Actions, act, priority_of, meet_in, no_action, action_section, action_done}
+use Rattle.sections.specs.Actions.{Stage, Open, AtAction, Becomes, Number, Close, Semicolon, Done, Actions, act, priority_of, meet_in, no_action, action_section, action_done}
 use Rattle.rules.specs.Grammar.{SignNext, ActionAt, permit, deny, priority, ClosingAt}
 use Rattle.sections.specs.Meeting.{read_section, onward}
 use Rattle.words.specs.Tests.{is_sign, is_named}

@@ -9,7 +9,7 @@ use Rattle.site.specs.Refusals.{refuse}
 use Rattle.words.specs.declared.words.Found.{Found as Read}
 use Rattle.words.specs.declared.words.Word.TheVariants.{Name}
 use Rattle.rules.specs.Grammar.{HeadAt}
-use Rattle.sections.specs.Heads.{Named, Head, named, name_from, owned, after_id_of, head_from}
+use Rattle.sections.specs.Heads.{Placed, Head, named, name_from, owned, after_id_of, head_from}
 use Rattle.sections.specs.Meeting.{onward}
 use Rattle.words.specs.Tests.{is_named}
 use Rattle.words.specs.Words.{bytes_of, word_from}
@@ -19,11 +19,11 @@ use Rattle.words.proofs.Telling.{as_name}
 use Rattle.words.proofs.Standing.{no_way, reads, bytes_are, read_back}
 
 -- a name as it was read
-record NameAt (text : List ℕ) (at : ℕ) (n : Named) : Type 0 where
+record NameAt (text : List ℕ) (at : ℕ) (n : Placed) : Type 0 where
   pub stands : Stands text at (name n.name) n.from n.to
   pub proper : is_name n.name ≡ true
 
-name_written : (text : List ℕ) (at : ℕ) (n : Named) → name_from text at ≡ Ok n → NameAt text at n
+name_written : (text : List ℕ) (at : ℕ) (n : Placed) → name_from text at ≡ Ok n → NameAt text at n
 name_written text at n e = got (onward_ok (named text) n (word_from text at) e)
   where
     got : ((f : Read) × (word_from text at ≡ Ok f) × (named text f ≡ Ok n)) → NameAt text at n
@@ -34,13 +34,13 @@ name_written text at n e = got (onward_ok (named text) n (word_from text at) e)
             let bytes : bytes_of text r.0 ≡ spelling w.token = bytes_are w.stands r.0.word in
             let is_name : is_named (kind w.token) ≡ true = sym (ap is_named w.word) ∙ x.0 in
             let st : Stands text at (name (bytes_of text r.0)) r.0.from r.0.to = subst (λ l. Stands text at (name l) r.0.from r.0.to) (sym bytes) (as_name w.stands is_name) in
-            subst (λ (m : Named). NameAt text at m) (ok_same y.1) (record { stands = st; proper = y.0 }))
+            subst (λ (m : Placed). NameAt text at m) (ok_same y.1) (record { stands = st; proper = y.0 }))
         | inr y ↦ absurd (no_way y.1)
       ]
       | inr x ↦ absurd (no_way x.1)
     ]
 
-abbrev called : List ℕ → ℕ → ℕ → Named
+abbrev called : List ℕ → ℕ → ℕ → Placed
 called n from to = record { name = n; from = from; to = to }
 
 name_read : (text : List ℕ) (at : ℕ) (n : List ℕ) (from to : ℕ) → Stands text at (name n) from to → is_name n ≡ true → name_from text at ≡ Ok (called n from to)
@@ -57,7 +57,7 @@ module _ (s : Plan) (text : List ℕ) (at : ℕ) where
       let q = onward_ok (λ by. owned s r.0 by (number_of by.name s.users)) h (name_from text r.0.to) r.2 in
       go r.0 q.0 (name_written text at r.0 r.1) (name_written text r.0.to q.0 q.1) (number_of q.0.name s.users) refl q.2
     where
-      go : (id by : Named) → NameAt text at id → NameAt text id.to by → (o : Option ℕ) → number_of by.name s.users ≡ o → owned s id by o ≡ Ok h → HeadAt s text at h.id h.place h.user h.rank h.end
+      go : (id by : Placed) → NameAt text at id → NameAt text id.to by → (o : Option ℕ) → number_of by.name s.users ≡ o → owned s id by o ≡ Ok h → HeadAt s text at h.id h.place h.user h.rank h.end
       go id by a b None f g = absurd (no_way g)
       go id by a b (Some u) f g =
           subst (λ (x : Head). HeadAt s text at x.id x.place x.user x.rank x.end) (ok_same g) (record {

@@ -1,5 +1,5 @@
 -- A rule is read exactly where it is written.
-use Rattle.std.proofs.Common.{◌≡◌, ℕ, List, Ok, Err, Result, refl, ap, ◌∙◌, subst}
+use Rattle.std.proofs.Common.{◌≡◌, ℕ, List, Ok, Err, Result, sym, refl, ap, ◌∙◌, subst}
 use Rattle.kind.specs.Sense.{Sense}
 use Rattle.site.specs.declared.refusals.Refusal.{Refusal}
 use Rattle.site.specs.Plans.{Plan}
@@ -60,7 +60,7 @@ module _ {C P : Type 0} (k : Sense C P) (s : Plan) (text : List ℕ) (place : �
       let p : Paths = Rattle.rules.proofs.PathLaw.mk Rattle.sections.specs.declared.routes.Stage.TheVariants.Done r.patterns r.places pr.items pr.start in
       let t : Targets = Rattle.rules.proofs.TargetLaw.mk Rattle.sections.specs.declared.targets.Stage.TheVariants.Done r.scope r.classes in
       let cr = conditions_read k text w.after_target w.conditions in
-      let a : Actions = Rattle.rules.proofs.ActionLaw.mk Rattle.sections.specs.declared.action.Stage.TheVariants.Done r.action r.semicolon in
+      let a : Actions = Rattle.rules.proofs.ActionLaw.mk Rattle.sections.specs.Actions.Done r.action r.semicolon in
       ap (onward (after_head_of k s text)) (head_read s text (start_of text place) w.head)
       ∙ ap (onward (after_paths_of k s text h)) pr.read
       ∙ ap (onward (after_target_of k s text h p)) (target_read text s.classes w.after_paths w.target)
@@ -70,3 +70,7 @@ module _ {C P : Type 0} (k : Sense C P) (s : Plan) (text : List ℕ) (place : �
 
   pub read_as_written : ReadAsWritten k s text place (read_rule k s text place)
   read_as_written r end = (rule_written r end, rule_read r end)
+
+-- what is read as it is specified is read as it is written
+pub law_of : {C P : Type 0} (k : Sense C P) (s : Plan) (text : List ℕ) (place : ℕ) (answer : Result (Ruling C × ℕ) Refusal) → answer ≡ read_rule k s text place → ReadAsWritten k s text place answer
+law_of k s text place answer e = subst (ReadAsWritten k s text place) (sym e) (read_as_written k s text place)

@@ -1,18 +1,15 @@
 -- A rule and how it is read: head, paths, target, conditions and action, and then the search for its paths.
-use Rattle.std.specs.Prelude.{ℕ, ◌+◌, cond, List, [], ◌∷◌, map, length, Ok, Err, codes, Result, bit_or, nat_lt, slice_index}
+use Rattle.std.specs.Prelude.{ℕ, ◌+◌, min, List, [], ◌∷◌, map, length, Ok, Err, codes, Result, bit_or, slice_index}
 use Rattle.fixed.specs.Items.{items}
 use Rattle.fixed.specs.Names.{spelling}
 use Rattle.kind.specs.Sense.{Sense}
 use Rattle.paths.specs.declared.finding.Fault.{Fault}
-use Rattle.paths.specs.declared.finding.Fault.TheVariants.{TooMany, NoPath}
 use Rattle.paths.specs.declared.pattern.Item.{Item}
 use Rattle.paths.specs.declared.ports.PortSet.{PortSet}
+use Rattle.paths.specs.Faults.{cause_of}
 use Rattle.paths.specs.Found.{searched}
-use Rattle.paths.specs.Patterns.{items_of}
 use Rattle.paths.specs.Unions.{next}
 use Rattle.site.specs.declared.parts.Link.{Link}
-use Rattle.site.specs.declared.refusals.Cause.{Cause}
-use Rattle.site.specs.declared.refusals.Cause.TheVariants as cause
 use Rattle.site.specs.declared.refusals.Refusal.{Refusal}
 use Rattle.site.specs.Plans.{Plan}
 use Rattle.site.specs.Refusals.{refuse}
@@ -25,7 +22,7 @@ use Rattle.sections.specs.Actions.{Actions, no_action, action_section}
 use Rattle.sections.specs.Conditions.{no_conditions, condition_section, condition_read}
 use Rattle.sections.specs.Heads.{Head, head_from}
 use Rattle.sections.specs.Meeting.{onward, read_section}
-use Rattle.sections.specs.Routes.{Paths, no_paths, path_section}
+use Rattle.sections.specs.Routes.{Paths, items_at, place_at, no_paths, path_section}
 use Rattle.sections.specs.Targets.{Targets, no_target, target_section}
 
 -- what a rule says, with conditions C; names as their bytes, patterns as their items
@@ -50,8 +47,8 @@ rule_of r = record {
   place = r.place;
   user = r.user;
   rank = r.rank;
-  patterns = map items_of (items r.patterns);
-  places = items r.places;
+  patterns = map items_at (items r.routes);
+  places = map place_at (items r.routes);
   scope = r.target.scope;
   classes = items r.target.classes;
   condition = r.condition;
@@ -76,11 +73,6 @@ blank_rule c = record {
   semicolon = 0;
   ports = record { bits = 0 };
 }
-
--- the cause by which a fault of the search is refused
-abbrev pub cause_of : Fault → Cause
-cause_of TooMany = cause.TooManyPaths
-cause_of NoPath = cause.NoPath
 
 -- the set s with the ports that patterns touch, numbered from i on, or the first that is refused
 abbrev pub touched_by : List Link → ℕ → ℕ → PortSet → List (List Item) → Result PortSet (ℕ × Fault)
@@ -138,7 +130,7 @@ after_head_of k s text h = onward (after_paths_of k s text h) (read_section (pat
 
 -- where reading starts: a place past the text counts as its end
 abbrev pub start_of : List ℕ → ℕ → ℕ
-start_of text place = cond (nat_lt place (length text)) place (length text)
+start_of text place = min place (length text)
 
 -- the rule that is read on a site from a place on, with the place after its semicolon, or the refusal
 abbrev pub read_rule : {C P : Type 0} → Sense C P → Plan → List ℕ → ℕ → Result (Ruling C × ℕ) Refusal

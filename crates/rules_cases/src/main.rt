@@ -10,7 +10,6 @@ use rules::{Rule, read_rule};
 use site::{Refusal, Site};
 use std::io::Read;
 use std::mem::size_of;
-use std::str::from_utf8;
 
 // Nodes gate, barn, mill, hill, linked gate-barn, barn-mill, mill-hill, barn-hill; classes data, voice, video;
 // users boss of rank 1 and ward of rank 3.
@@ -20,25 +19,44 @@ const MAP: &[u8] =
 const TOLD: &[u8] =
     b"late boss {<gate,*,hill>} {traffic_class == {voice}} {time >= 2200, time <= 0600} {permit}; sound ward {<barn,mill>, <mill>} {traffic_class != {voice}} {time <= 0800} {deny}; field boss {*} {*} {*} {priority := 4};";
 
-// The number and the place of a text: of its refusal, or 0 and the place after the rule.
-fn outcome(site: &Site, text: &[u8]) -> (u8, usize) {
-    let read: Result<(Rule<Pile>, usize), Refusal> = read_rule(site, text, 0);
-    match read {
-        Ok(found) => (0, found.1),
-        Err(refusal) => (refusal.number(), refusal.place),
+// A text, and what is expected of it: the number and the place of its refusal, or 0 and the place after the rule.
+#[derive(Clone, Copy)]
+struct Case<'t> {
+    number: &'t str,
+    place: &'t str,
+    about: &'t str,
+    text: &'t str,
+}
+
+impl<'t> Case<'t> {
+    fn parse(case: &'t str) -> Option<Case<'t>> {
+        let (line, text) = case.split_once('\n')?;
+        let (number, rest) = line.split_once(' ')?;
+        let (place, about) = rest.split_once(' ')?;
+        Some(Case {
+            number,
+            place,
+            about,
+            text,
+        })
     }
+}
+
+// The place after the rule that a text writes.
+fn outcome(site: &Site, text: &[u8]) -> Result<usize, Refusal> {
+    let (_, end) = read_rule::<Pile>(site, text, 0)?;
+    Ok(end)
 }
 
 // What was read of a rule, part by part: nodes, classes and users by number.
 fn tell(rt: &HostRuntime, rule: &Rule<Pile>) -> anyhow::Result<()> {
-    let id = from_utf8(rule.id.as_bytes())?;
     println!(rt;
-        "{id} at {}, user {} of rank {}",
-        rule.place, rule.user, rule.rank
+        "{} at {}, user {} of rank {}",
+        rule.id, rule.place, rule.user, rule.rank
     )?;
-    for pattern in rule.patterns.as_slice() {
+    for route in rule.routes.as_slice() {
         print!(rt; "  pattern")?;
-        for item in pattern.items() {
+        for item in route.pattern.items() {
             match item {
                 Item::Node(n) => print!(rt; " {n}")?,
                 Item::Star => print!(rt; " *")?,
@@ -46,13 +64,11 @@ fn tell(rt: &HostRuntime, rule: &Rule<Pile>) -> anyhow::Result<()> {
         }
         println!(rt; "")?;
     }
-    for place in rule.places.as_slice() {
-        println!(rt; "  first sign at {place}")?;
+    for route in rule.routes.as_slice() {
+        println!(rt; "  first sign at {}", route.place)?;
     }
-    for class in 0..3 {
-        if rule.target.contains(class) {
-            println!(rt; "  class {class}")?;
-        }
+    for class in (0..3).filter(|class| rule.target.contains(*class)) {
+        println!(rt; "  class {class}")?;
     }
     println!(rt; "  {:?}, semicolon at {}", rule.action, rule.semicolon)?;
     Ok(())
@@ -62,10 +78,9 @@ fn tell(rt: &HostRuntime, rule: &Rule<Pile>) -> anyhow::Result<()> {
 fn tell_all(rt: &HostRuntime, site: &Site) -> anyhow::Result<()> {
     let mut at = 0;
     for _ in 0..3 {
-        let read: Result<(Rule<Pile>, usize), Refusal> = read_rule(site, TOLD, at);
-        if let Ok(found) = read {
-            tell(rt, &found.0)?;
-            at = found.1;
+        if let Ok((rule, end)) = read_rule::<Pile>(site, TOLD, at) {
+            tell(rt, &rule)?;
+            at = end;
         }
     }
     println!(rt; "a rule takes {} bytes", size_of::<Rule<Pile>>())?;
@@ -80,21 +95,18 @@ fn run(rt: &HostRuntime) -> anyhow::Result<()> {
     rt.stdin().read_to_string(&mut input)?;
     let mut count: u64 = 0;
     let mut other: u64 = 0;
-    for case in input.split("\n.\n") {
-        let Some((line, text)) = case.split_once('\n') else {
-            continue;
+    for case in input.split("\n.\n").filter_map(Case::parse) {
+        let (number, place) = match outcome(&site, case.text.as_bytes()) {
+            Ok(end) => (0, end),
+            Err(refusal) => (refusal.number(), refusal.place),
         };
-        let Some((number, rest)) = line.split_once(' ') else {
-            continue;
-        };
-        let Some((place, about)) = rest.split_once(' ') else {
-            continue;
-        };
-        let (n, p) = outcome(&site, text.as_bytes());
         count = count.wrapping_add(1);
-        if number.parse::<u8>()? != n || place.parse::<usize>()? != p {
+        if case.number.parse::<u8>()? != number || case.place.parse::<usize>()? != place {
             other = other.wrapping_add(1);
-            println!(rt; "{n} at {p}, not {number} at {place}: {about}")?;
+            println!(rt;
+                "{number} at {place}, not {} at {}: {}",
+                case.number, case.place, case.about
+            )?;
         }
     }
     println!(rt; "{count} cases, {other} otherwise than expected")?;

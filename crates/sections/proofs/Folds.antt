@@ -1,5 +1,5 @@
 -- What a section that is being read keeps, word by word.
-use Rattle.std.proofs.Common.{◌≡◌, ℕ, zero, suc, ◌+◌, ◌<◌, ◌≤◌, min, Bool, true, false, List, length, Ok, Err, IfOk, Result, sym, ap, ◌∙◌, subst, arith}
+use Rattle.std.proofs.Common.{◌≡◌, ℕ, zero, suc, ◌+◌, ◌<◌, ◌≤◌, min, Bool, true, false, List, length, Ok, Err, Result, sym, ap, ◌∙◌, arith}
 use Rattle.std.proofs.lemmas.List.{drop_all}
 use Rattle.site.specs.declared.refusals.Refusal.{Refusal}
 use Rattle.site.specs.declared.refusals.Cause.TheVariants.{TextEnds}
@@ -58,10 +58,6 @@ module _ {S : Type 0} {M : Section S} {text : List ℕ} {s : S} {at : ℕ} {goal
 -- a reader that passes a refusal on
 pub passed_on : {R S : Type 0} (v : R → S) {goal : Result (S × ℕ) Refusal} (r : Result (R × ℕ) Refusal) (e e' : Refusal) → r ≡ Err e → e ≡ e' → Err e' ≡ goal → viewed v r ≡ goal
 passed_on v r e e' p q g = ap (viewed v) p ∙ ap Err q ∙ g
-
--- what holds of each answer holds where there is none
-pub none_past : {R : Type 0} (P : R × ℕ → Type 0) (r : Result (R × ℕ) Refusal) (e : Refusal) → r ≡ Err e → IfOk r P
-none_past P r e p = subst (λ x. IfOk x P) (sym p) tt
 
 -- a word or a value was read, as was due
 pub as_due : (text : List ℕ) (at : ℕ) {b b' : Bool} {r : Result Found Refusal} → r ≡ due_from b text at → b ≡ b' → due_from b' text at ≡ r

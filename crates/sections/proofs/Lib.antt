@@ -1,4 +1,2 @@
 pub mod Folds
-pub mod Listed
-pub mod Kept
 pub mod Digits

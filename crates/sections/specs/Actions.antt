@@ -10,11 +10,21 @@ use Rattle.words.specs.declared.signs.Sign.TheVariants as sign
 use Rattle.words.specs.declared.words.Word.{Word}
 use Rattle.sections.specs.declared.action.Action.{Action}
 use Rattle.sections.specs.declared.action.Action.TheVariants.{Permit, Deny, Priority}
-use Rattle.sections.specs.declared.action.Stage.{Stage}
-use Rattle.sections.specs.declared.action.Stage.TheVariants.{Open, Action as AtAction, Becomes, Number, Close, Semicolon, Done}
 use Rattle.sections.specs.declared.action.Acting.{Acting}
+use Rattle.sections.specs.declared.action.Acting.TheVariants as stage
+use Rattle.sections.specs.declared.action.Closing.{Closing}
 use Rattle.sections.specs.Meeting.{Section, onward}
 use Rattle.words.specs.Tests.{is_sign, is_named}
+
+-- what the section expects next
+pub data Stage : Type 0 where
+  Open : Stage
+  AtAction : Stage
+  Becomes : Stage
+  Number : Stage
+  Close : Stage
+  Semicolon : Stage
+  Done : Stage
 
 -- the stage, the action, and the place of the semicolon
 pub record Actions : Type 0 where
@@ -22,9 +32,19 @@ pub record Actions : Type 0 where
   pub action : Action
   pub semicolon : ℕ
 
--- what the code holds of it
+-- what the code holds of it: until an action was read, `Deny` stands for it
 abbrev pub acting : Acting → Actions
-acting a = record { stage = a.stage; action = a.action; semicolon = a.semicolon }
+acting stage.Open = record { stage = Open; action = Deny; semicolon = 0 }
+acting stage.Action = record { stage = AtAction; action = Deny; semicolon = 0 }
+acting stage.Becomes = record { stage = Becomes; action = Deny; semicolon = 0 }
+acting stage.Number = record { stage = Number; action = Deny; semicolon = 0 }
+acting (stage.Close a) = record { stage = Close; action = a; semicolon = 0 }
+acting (stage.Semicolon a) = record { stage = Semicolon; action = a; semicolon = 0 }
+acting (stage.Done c) = record { stage = Done; action = c.action; semicolon = c.semicolon }
+
+-- an action that was read whole
+abbrev pub closed : Closing → Actions
+closed c = record { stage = Done; action = c.action; semicolon = c.semicolon }
 
 -- before the first word
 abbrev pub no_action : Actions

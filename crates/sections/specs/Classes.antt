@@ -1,5 +1,6 @@
 -- The classes of a target.
-use Rattle.std.specs.Prelude.{ℕ, Bool, true, false, not, ◌||◌, List, [], ◌∷◌, ◌==◌}
+use Rattle.std.specs.Prelude.{ℕ, Bool, true, not, List, ◌==◌}
+use Rattle.std.specs.List.{list_any}
 use Rattle.fixed.specs.Items.{items}
 use Rattle.sections.specs.declared.targets.Scope.{Scope}
 use Rattle.sections.specs.declared.targets.Scope.TheVariants.{All, Only, AllBut}
@@ -7,8 +8,7 @@ use Rattle.sections.specs.declared.targets.Target.{Target}
 
 -- whether a number is in a list
 abbrev pub listed : ℕ → List ℕ → Bool
-listed n [] = false
-listed n (x ∷ xs) = x == n || listed n xs
+listed n xs = list_any (λ x. x == n) xs
 
 -- whether a class is among those that a list gives by its scope
 abbrev pub within : Scope → List ℕ → ℕ → Bool

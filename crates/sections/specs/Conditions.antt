@@ -2,11 +2,12 @@
 use Rattle.std.specs.Prelude.{ℕ, ◌+◌, Bool, true, false, cond, ◌&&◌, List, [], length, Ok, Err, Result, nat_lt}
 use Rattle.fixed.specs.Spelling.{is_name}
 use Rattle.kind.specs.declared.comparison.Declined.{Declined}
-use Rattle.kind.specs.declared.comparison.Declined.TheVariants as declined
+use Rattle.kind.specs.declared.comparison.Declined.TheVariants.{BadValue, Doubled}
 use Rattle.kind.specs.declared.comparison.Sign.{Sign as Relation}
 use Rattle.kind.specs.declared.comparison.Sign.TheVariants.{Equal, NotEqual, AtLeast, AtMost}
 use Rattle.kind.specs.Taking.{Taking, became, not_mine, bad_value, doubled}
 use Rattle.site.specs.declared.refusals.Refusal.{Refusal}
+use Rattle.site.specs.declared.refusals.Cause.{Cause}
 use Rattle.site.specs.declared.refusals.Cause.TheVariants as cause
 use Rattle.site.specs.Refusals.{refuse}
 use Rattle.words.specs.declared.signs.Sign.TheVariants as sign
@@ -14,28 +15,13 @@ use Rattle.words.specs.declared.words.Word.{Word}
 use Rattle.sections.specs.declared.conditions.Conditioning.{Conditioning}
 use Rattle.sections.specs.declared.conditions.Stage.{Stage}
 use Rattle.sections.specs.declared.conditions.Stage.TheVariants.{Open, First, Sign as AtSign, Value as AtValue, After, Next, Close, Done}
-use Rattle.sections.specs.declared.conditions.Objection.{Objection}
-use Rattle.sections.specs.declared.conditions.Objection.TheVariants.{NoKind, BadValue, Doubled}
 use Rattle.sections.specs.Meeting.{Section, onward}
 use Rattle.words.specs.Tests.{is_sign, is_named, is_value}
 
--- what a kind declines, as an objection
-abbrev pub objected : Declined → Objection
-objected declined.BadValue = BadValue
-objected declined.Doubled = Doubled
-
--- a word of no kind is refused at the word, the rest at the value
-abbrev pub placed : ℕ → ℕ → Objection → Refusal
-placed word value NoKind = record { cause = cause.NoKind; place = word }
-placed word value BadValue = record { cause = cause.BadValue; place = value }
-placed word value Doubled = record { cause = cause.DoubledBound; place = value }
-
--- what a kind answers
-abbrev pub asked : {C : Type 0} → Taking C → Result C Objection
-asked (became c) = Ok c
-asked not_mine = Err NoKind
-asked bad_value = Err BadValue
-asked doubled = Err Doubled
+-- what a kind declines, as a cause
+abbrev pub cause_of : Declined → Cause
+cause_of BadValue = cause.BadValue
+cause_of Doubled = cause.DoubledBound
 
 -- what becomes of the condition when a comparison that was read whole is offered to the kind
 abbrev pub offered_to : {C : Type 0} → Taking C → ℕ → ℕ → Result C Refusal
@@ -63,7 +49,7 @@ pub record Conditions (C : Type 0) : Type 0 where
 
 -- what the code holds of it
 abbrev pub conditions_of : {C : Type 0} → Conditioning C → Conditions C
-conditions_of s = record { stage = s.stage; count = s.count; word = s.word.now; place = s.place; sign = s.sign; condition = s.condition }
+conditions_of s = record { stage = s.stage; count = s.count; word = s.reading.word.now; place = s.reading.place; sign = s.reading.sign; condition = s.condition }
 
 -- before the first word
 abbrev pub no_conditions : {C : Type 0} → C → Conditions C

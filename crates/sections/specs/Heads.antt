@@ -10,31 +10,31 @@ use Rattle.site.specs.declared.refusals.Cause.TheVariants.{Unexpected, OverLimit
 use Rattle.site.specs.Plans.{Plan}
 use Rattle.site.specs.Refusals.{refuse}
 use Rattle.sections.specs.declared.head.Head.{Head as Heading}
-use Rattle.sections.specs.declared.head.Named.{Named as Naming}
+use Rattle.sections.specs.declared.head.Placed.{Placed as Placing}
 use Rattle.words.specs.declared.words.Found.{Found}
 use Rattle.sections.specs.Meeting.{onward}
 use Rattle.words.specs.Tests.{is_named}
 use Rattle.words.specs.Words.{bytes_of, word_from}
 
 -- a name, and where it stands
-pub record Named : Type 0 where
+pub record Placed : Type 0 where
   pub name : List ℕ
   pub from : ℕ
   pub to : ℕ
 
 -- what the code holds of it
-abbrev pub name_of : Naming → Named
+abbrev pub name_of : Placing → Placed
 name_of n = record { name = spelling n.name; from = n.from; to = n.to }
 
 -- a word that was found is a name, of at most sixteen bytes
-abbrev pub named : List ℕ → Found → Result Named Refusal
+abbrev pub named : List ℕ → Found → Result Placed Refusal
 named text f =
     cond (is_named f.word)
     (cond (is_name (bytes_of text f)) (Ok (record { name = bytes_of text f; from = f.from; to = f.to })) (refuse OverLimit f.from))
     (refuse Unexpected f.from)
 
 -- the name at a place or after it
-abbrev pub name_from : List ℕ → ℕ → Result Named Refusal
+abbrev pub name_from : List ℕ → ℕ → Result Placed Refusal
 name_from text at = onward (named text) (word_from text at)
 
 -- the id and its place, the user's number and rank, and the place after the user's name
@@ -50,12 +50,12 @@ abbrev pub head_of : Heading → Head
 head_of h = record { id = spelling h.id; place = h.place; user = h.user; rank = h.rank; end = h.end }
 
 -- the rule of a declared user
-abbrev pub owned : Plan → Named → Named → Option ℕ → Result Head Refusal
+abbrev pub owned : Plan → Placed → Placed → Option ℕ → Result Head Refusal
 owned s id by (Some u) = Ok (record { id = id.name; place = id.from; user = u; rank = unwrap_or (slice_get s.ranks u) 0; end = by.to })
 owned s id by None = refuse Undeclared by.from
 
 -- the user after an id
-abbrev pub after_id_of : Plan → List ℕ → Named → Result Head Refusal
+abbrev pub after_id_of : Plan → List ℕ → Placed → Result Head Refusal
 after_id_of s text id = onward (λ by. owned s id by (number_of by.name s.users)) (name_from text id.to)
 
 -- the head at a place or after it

@@ -1,10 +1,12 @@
 -- The section of paths: `{*}`, or one to four patterns such as `{<gate,*,hill>, <barn>}`.
-use Rattle.std.specs.Prelude.{ℕ, Bool, true, false, cond, ◌&&◌, List, [], ◌∷◌, ◌++◌, map, length, Some, None, Ok, Option, Result, nat_lt}
+use Rattle.std.specs.Prelude.{ℕ, Bool, true, false, cond, ◌&&◌, List, [], ◌∷◌, ◌++◌, map, length, Some, None, Ok, Err, Option, Result, nat_lt}
+use Rattle.fixed.specs.declared.bounded.Table.{Table}
 use Rattle.fixed.specs.Items.{items}
 use Rattle.fixed.specs.Rosters.{number_of}
 use Rattle.fixed.specs.Spelling.{is_name}
 use Rattle.paths.specs.declared.pattern.Item.{Item}
 use Rattle.paths.specs.declared.pattern.Item.TheVariants.{Node, Star as StarItem}
+use Rattle.paths.specs.declared.route.Route.{Route}
 use Rattle.paths.specs.Patterns.{items_of}
 use Rattle.site.specs.declared.refusals.Refusal.{Refusal}
 use Rattle.site.specs.declared.refusals.Cause.TheVariants.{Unexpected, OverLimit, Undeclared}
@@ -25,9 +27,16 @@ pub record Paths : Type 0 where
   pub items : List Item
   pub start : ℕ
 
+-- the items of a pattern that was read, and the place of its first sign
+abbrev pub items_at : Route → List Item
+items_at r = items_of r.pattern
+
+abbrev pub place_at : Route → ℕ
+place_at r = r.place
+
 -- what the code holds of it
 abbrev pub paths_of : Routes → Paths
-paths_of r = record { stage = r.stage; patterns = map items_of (items r.patterns); places = items r.places; items = items_of r.pattern; start = r.start }
+paths_of r = record { stage = r.stage; patterns = map items_at (items r.routes); places = map place_at (items r.routes); items = items_of r.reading.pattern; start = r.reading.place }
 
 -- before the first word
 abbrev pub no_paths : Paths
@@ -92,3 +101,17 @@ paths_done Done = true
 -- the section, over the nodes of a site
 abbrev pub path_section : List (List ℕ) → Section Paths
 path_section nodes = record { meet = meet_paths nodes; due = λ _. false; done = λ s. paths_done s.stage }
+
+-- the patterns that were read and the places of their first signs
+pub record Patterns : Type 0 where
+  pub patterns : List (List Item)
+  pub places : List ℕ
+
+-- what the code answers of it
+abbrev pub routes_of : Table Route 4 → Patterns
+routes_of t = record { patterns = map items_at (items t); places = map place_at (items t) }
+
+-- what a section that was read tells
+abbrev pub paths_read : Result (Paths × ℕ) Refusal → Result (Patterns × ℕ) Refusal
+paths_read (Ok p) = Ok (record { patterns = p.0.patterns; places = p.0.places }, p.1)
+paths_read (Err e) = Err e

@@ -13,6 +13,7 @@ use Rattle.sections.specs.declared.targets.Scope.{Scope}
 use Rattle.sections.specs.declared.targets.Scope.TheVariants.{All, Only, AllBut}
 use Rattle.sections.specs.declared.targets.Stage.{Stage}
 use Rattle.sections.specs.declared.targets.Stage.TheVariants.{Open, First, Sign as AtSign, List as AtList, Class, After, Close, Done}
+use Rattle.sections.specs.declared.targets.Target.{Target}
 use Rattle.sections.specs.declared.targets.Targeting.{Targeting}
 use Rattle.sections.specs.Meeting.{Section, onward}
 use Rattle.words.specs.Tests.{is_sign, is_named}
@@ -26,6 +27,10 @@ pub record Targets : Type 0 where
 -- what the code holds of it
 abbrev pub target_of : Targeting → Targets
 target_of t = record { stage = t.stage; scope = t.target.scope; classes = items t.target.classes }
+
+-- a target that was read whole
+abbrev pub target_read : Target → Targets
+target_read t = record { stage = Done; scope = t.scope; classes = items t.classes }
 
 -- before the first word
 abbrev pub no_target : Targets

@@ -5,11 +5,11 @@ ghost use Rattle.sections.specs.Heads.{name_of, name_from, head_of, head_from};
 
 use fixed::Name;
 use site::{Cause, Refusal, Site};
-use words::{Word, word_from};
+use words::{Due, Word, word_from};
 
 // A name and where it stands.
 #[derive(Clone, Copy)]
-pub struct Named {
+struct Placed {
     name: Name,
     from: usize,
     to: usize,
@@ -25,28 +25,20 @@ pub struct Head {
 }
 
 // The name at a place or after it.
-fn read_name(text: &[u8], at: usize) -> Result<Named, Refusal>
+fn read_name(text: &[u8], at: usize) -> Result<Placed, Refusal>
     ensures is { MatchResult result (λ n. name_from text.now at ≡ Ok (name_of n)) (λ e. name_from text.now at ≡ Err e) }
     ensures within { IfOk result (λ n. n.to ≤ length text.now) }
 {
-    let found = word_from(text, at)?;
-    match found.word {
-        Word::Name => match Name::from_bytes(found.bytes(text)) {
-            Some(name) => Ok(Named {
-                name,
-                from: found.from,
-                to: found.to,
-            }),
-            None => Err(Refusal {
-                cause: Cause::OverLimit,
-                place: found.from,
-            }),
-        },
-        _ => Err(Refusal {
-            cause: Cause::Unexpected,
-            place: found.from,
-        }),
-    }
+    let found = word_from(text, at, Due::Word)?;
+    let Word::Name = found.word else {
+        return Err(Cause::Unexpected.at(found.from));
+    };
+    let name = Name::from_bytes(found.bytes(text)).ok_or(Cause::OverLimit.at(found.from))?;
+    Ok(Placed {
+        name,
+        from: found.from,
+        to: found.to,
+    })
 }
 
 // The id and the user from a place on.
@@ -56,17 +48,14 @@ pub fn read_head(site: &Site, text: &[u8], at: usize) -> Result<Head, Refusal>
 {
     let id = read_name(text, at)?;
     let by = read_name(text, id.to)?;
-    match site.user(by.name.as_bytes()) {
-        Some(user) => Ok(Head {
-            id: id.name,
-            place: id.from,
-            user,
-            rank: site.rank(user).unwrap_or(0),
-            end: by.to,
-        }),
-        None => Err(Refusal {
-            cause: Cause::Undeclared,
-            place: by.from,
-        }),
-    }
+    let user = site
+        .user(by.name.as_bytes())
+        .ok_or(Cause::Undeclared.at(by.from))?;
+    Ok(Head {
+        id: id.name,
+        place: id.from,
+        user,
+        rank: site.rank(user).unwrap_or(0),
+        end: by.to,
+    })
 }

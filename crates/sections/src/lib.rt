@@ -5,10 +5,11 @@ mod action;
 mod conditions;
 mod head;
 mod routes;
+mod section;
 mod targets;
 
-pub use action::{Acting, Action, read_action};
+pub use action::{Action, Closing, read_action};
 pub use conditions::read_conditions;
 pub use head::{Head, read_head};
-pub use routes::{Routes, read_paths};
-pub use targets::{Target, Targeting, read_target};
+pub use routes::read_paths;
+pub use targets::{Target, read_target};

@@ -3,16 +3,17 @@ ghost use Rattle.std.specs.Prelude.{◌≡◌, ◌≤◌, map, length, IfOk, Ok,
 ghost use Rattle.fixed.specs.Items.{items};
 ghost use Rattle.paths.specs.Patterns.{items_of};
 ghost use Rattle.site.specs.Sites.{plan};
-ghost use Rattle.sections.specs.Routes.{added, added_node, kept, paths_of, no_paths, meet_paths, paths_done, path_section};
+ghost use Rattle.sections.specs.Routes.{Paths, added, added_node, kept, items_at, place_at, paths_of, no_paths, path_section, routes_of, paths_read};
 ghost use Rattle.sections.specs.Meeting.{viewed, read_section};
 
+use crate::section::{Section, read};
 use fixed::{Table, is_name};
-use paths::{Item, Pattern};
+use paths::{Item, Pattern, Route};
 use site::{Cause, Refusal, Site};
-use words::{Sign, Word, word_from};
+use words::{Due, Sign, Word};
 
 // What the section expects next.
-#[derive(Clone, Copy)]
+#[derive(Clone, Copy, Debug, PartialEq)]
 pub enum Stage {
     Open,
     First,
@@ -24,14 +25,14 @@ pub enum Stage {
     Done,
 }
 
-// The patterns so far with the place of each one's first sign, and the pattern that is being read.
+// The patterns so far, and the one that is being read, each with the place of its first sign.
+// That one stands beside the stage: what the section means keeps the last pattern and its start to the end.
 #[derive(Clone, Copy)]
-pub struct Routes {
+struct Routes<'m> {
+    site: &'m Site,
     stage: Stage,
-    pub patterns: Table<Pattern, 4>,
-    pub places: Table<usize, 4>,
-    pattern: Pattern,
-    start: usize,
+    routes: Table<Route, 4>,
+    reading: Route,
 }
 
 // One item more, if there is room for it.
@@ -40,14 +41,7 @@ fn add(pattern: &mut Pattern, item: Item, place: usize) -> Result<(), Refusal>
         (λ _. added (items_of pattern.old) item place ≡ Ok (items_of pattern.new))
         (λ e. added (items_of pattern.old) item place ≡ Err e) }
 {
-    if pattern.push(item) {
-        Ok(())
-    } else {
-        Err(Refusal {
-            cause: Cause::OverLimit,
-            place,
-        })
-    }
+    pattern.push(item).map_err(|_| Cause::OverLimit.at(place))
 }
 
 // One node more, if there is room for it and the site has it.
@@ -56,122 +50,98 @@ fn add_node(site: &Site, pattern: &mut Pattern, name: &[u8], place: usize) -> Re
         (λ _. added_node (plan site.now).nodes (items_of pattern.old) name.now place ≡ Ok (items_of pattern.new))
         (λ e. added_node (plan site.now).nodes (items_of pattern.old) name.now place ≡ Err e) }
 {
+    // Of two refusals the one for room counts, so it is asked for before the name is looked up.
     if !is_name(name) || pattern.items().len() >= 12 {
-        return Err(Refusal {
-            cause: Cause::OverLimit,
-            place,
-        });
+        return Err(Cause::OverLimit.at(place));
     }
-    match site.node(name) {
-        Some(node) => add(pattern, Item::Node(node), place),
-        None => Err(Refusal {
-            cause: Cause::Undeclared,
-            place,
-        }),
-    }
+    let node = site.node(name).ok_or(Cause::Undeclared.at(place))?;
+    add(pattern, Item::Node(node), place)
 }
 
 // Keeps a pattern that was read whole.
-fn keep(patterns: &mut Table<Pattern, 4>, pattern: Pattern)
-    ensures { map items_of (items patterns.new) ≡ kept (map items_of (items patterns.old)) (items_of pattern) }
+fn keep(routes: &mut Table<Route, 4>, pattern: Pattern, place: usize)
+    ensures patterns { map items_at (items routes.new) ≡ kept (map items_at (items routes.old)) (items_of pattern) }
+    ensures places { map place_at (items routes.new) ≡ kept (map place_at (items routes.old)) place }
 {
-    patterns.push(pattern);
+    let _ = routes.push(Route { pattern, place });
 }
 
-fn keep_place(places: &mut Table<usize, 4>, place: usize)
-    ensures { items places.new ≡ kept (items places.old) place }
-{
-    places.push(place);
-}
-
-impl Routes {
-    fn new() -> Routes
-        ensures { paths_of result ≡ no_paths }
+impl<'m> Routes<'m> {
+    fn new(site: &'m Site) -> Routes<'m>
+        ensures start { paths_of result ≡ no_paths }
+        ensures site { result.site.now ≡ site.now }
     {
-        Routes {
-            stage: Stage::Open,
-            patterns: Table::new(Pattern::new()),
-            places: Table::new(0),
+        let reading = Route {
             pattern: Pattern::new(),
-            start: 0,
+            place: 0,
+        };
+        Routes {
+            site,
+            stage: Stage::Open,
+            routes: Table::new(reading),
+            reading,
         }
     }
+}
 
-    fn is_done(&self) -> bool
-        ensures { result ≡ paths_done self.now.stage }
-    {
-        match self.stage {
-            Stage::Done => true,
-            _ => false,
-        }
+impl<'m, 't> Section<'t> for Routes<'m> {
+    ghost State = { Paths };
+
+    ghost view = { paths_of };
+
+    ghost course = { λ r. path_section (plan r.site.now).nodes };
+
+    fn due(&self) -> Option<Due> {
+        (self.stage != Stage::Done).then_some(Due::Word)
     }
 
-    // Moves on by one word, in place.
-    fn meet(&mut self, site: &Site, word: Word, bytes: &[u8], place: usize) -> Result<(), Refusal>
-        ensures { MatchResult result
-            (λ _. meet_paths (plan site.now).nodes (paths_of self.old) word bytes.now place ≡ Ok (paths_of self.new))
-            (λ e. meet_paths (plan site.now).nodes (paths_of self.old) word bytes.now place ≡ Err e) }
-    {
+    fn meet(&mut self, word: Word, bytes: &'t [u8], place: usize) -> Result<(), Refusal> {
         match (self.stage, word) {
             (Stage::Open, Word::Sign(Sign::Open)) => self.stage = Stage::First,
             (Stage::First, Word::Sign(Sign::Star)) => {
-                add(&mut self.pattern, Item::Star, place)?;
-                keep(&mut self.patterns, self.pattern);
-                keep_place(&mut self.places, place);
+                add(&mut self.reading.pattern, Item::Star, place)?;
+                keep(&mut self.routes, self.reading.pattern, place);
                 self.stage = Stage::Close;
             }
             (Stage::First, Word::Sign(Sign::Less)) => {
-                self.start = place;
+                self.reading.place = place;
                 self.stage = Stage::Item;
             }
             (Stage::Item, Word::Name) => {
-                add_node(site, &mut self.pattern, bytes, place)?;
+                add_node(self.site, &mut self.reading.pattern, bytes, place)?;
                 self.stage = Stage::After;
             }
             (Stage::Item, Word::Sign(Sign::Star)) => {
-                add(&mut self.pattern, Item::Star, place)?;
+                add(&mut self.reading.pattern, Item::Star, place)?;
                 self.stage = Stage::After;
             }
             (Stage::After, Word::Sign(Sign::Comma)) => self.stage = Stage::Item,
             (Stage::After, Word::Sign(Sign::Greater)) => {
-                keep(&mut self.patterns, self.pattern);
-                keep_place(&mut self.places, self.start);
+                keep(&mut self.routes, self.reading.pattern, self.reading.place);
                 self.stage = Stage::Between;
             }
             (Stage::Between, Word::Sign(Sign::Comma)) => self.stage = Stage::Next,
             (Stage::Between, Word::Sign(Sign::Close)) => self.stage = Stage::Done,
-            (Stage::Next, Word::Sign(Sign::Less)) if self.places.len() < 4 => {
-                self.pattern = Pattern::new();
-                self.start = place;
+            (Stage::Next, Word::Sign(Sign::Less)) if self.routes.len() < 4 => {
+                self.reading = Route {
+                    pattern: Pattern::new(),
+                    place,
+                };
                 self.stage = Stage::Item;
             }
-            (Stage::Next, Word::Sign(Sign::Less)) => {
-                return Err(Refusal {
-                    cause: Cause::OverLimit,
-                    place,
-                });
-            }
+            (Stage::Next, Word::Sign(Sign::Less)) => return Err(Cause::OverLimit.at(place)),
             (Stage::Close, Word::Sign(Sign::Close)) => self.stage = Stage::Done,
-            _ => return Err(Refusal {
-                cause: Cause::Unexpected,
-                place,
-            }),
+            _ => return Err(Cause::Unexpected.at(place)),
         }
         Ok(())
     }
 }
 
 // The section of paths from a place on, and the place after it.
-pub fn read_paths(site: &Site, text: &[u8], at: usize) -> Result<(Routes, usize), Refusal>
-    ensures is { viewed paths_of result ≡ read_section (path_section (plan site.now).nodes) text.now no_paths at }
+pub fn read_paths(site: &Site, text: &[u8], at: usize) -> Result<(Table<Route, 4>, usize), Refusal>
+    ensures is { viewed routes_of result ≡ paths_read (read_section (path_section (plan site.now).nodes) text.now no_paths at) }
     ensures within { at ≤ length text.now → IfOk result (λ p. p.1 ≤ length text.now) }
 {
-    let mut routes = Routes::new();
-    let mut at = at;
-    while !routes.is_done() {
-        let found = word_from(text, at)?;
-        routes.meet(site, found.word, found.bytes(text), found.from)?;
-        at = found.to;
-    }
-    Ok((routes, at))
+    let (routes, end) = read(Routes::new(site), text, at)?;
+    Ok((routes.routes, end))
 }

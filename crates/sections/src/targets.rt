@@ -3,21 +3,23 @@ ghost use Rattle.std.specs.Prelude.{◌≡◌, ◌≤◌, [], length, IfOk, Ok, 
 ghost use Rattle.fixed.specs.Items.{items};
 ghost use Rattle.site.specs.Sites.{plan};
 ghost use Rattle.sections.specs.Meeting.{viewed, read_section};
-ghost use Rattle.sections.specs.Targets.{added_class, target_of, no_target, meet_target, target_done, target_section};
-ghost use Rattle.sections.specs.Classes.{listed, member};
+ghost use Rattle.sections.specs.Targets.{Targets, added_class, target_of, target_read, no_target, target_section};
+ghost use Rattle.sections.specs.Classes.{member};
 
+use crate::section::{Section, read};
 use fixed::{Table, is_name};
 use site::{Cause, Refusal, Site};
-use words::{Sign, Word, is_word, word_from};
+use words::{Due, Sign, Word};
 
 // Which classes a list of classes gives: all there are, those in the list, or those not in it.
-#[derive(Clone, Copy)]
+#[derive(Clone, Copy, Debug, PartialEq)]
 pub enum Scope {
     All,
     Only,
     AllBut,
 }
 
+// The scope stands beside the list, which is filled one way whatever the scope.
 #[derive(Clone, Copy)]
 pub struct Target {
     scope: Scope,
@@ -25,7 +27,7 @@ pub struct Target {
 }
 
 // What the section expects next.
-#[derive(Clone, Copy)]
+#[derive(Clone, Copy, Debug, PartialEq)]
 pub enum Stage {
     Open,
     First,
@@ -39,9 +41,10 @@ pub enum Stage {
 
 // The target so far.
 #[derive(Clone, Copy)]
-pub struct Targeting {
+struct Targeting<'m> {
+    site: &'m Site,
     stage: Stage,
-    pub target: Target,
+    target: Target,
 }
 
 impl Target {
@@ -59,23 +62,13 @@ impl Target {
     pub fn contains(&self, class: u8) -> bool
         ensures { result ≡ member self.now class }
     {
+        let listed = self.classes.as_slice().contains(&class);
         match self.scope {
             Scope::All => true,
-            Scope::Only => is_listed(self.classes.as_slice(), class),
-            Scope::AllBut => !is_listed(self.classes.as_slice(), class),
+            Scope::Only => listed,
+            Scope::AllBut => !listed,
         }
     }
-}
-
-fn is_listed(classes: &[u8], class: u8) -> bool
-    ensures { result ≡ listed class classes.now }
-{
-    for each in classes {
-        if *each == class {
-            return true;
-        }
-    }
-    false
 }
 
 // One class more, if there is room for it and the site has it.
@@ -89,62 +82,48 @@ fn add_class(
         (λ _. added_class (plan site.now).classes (items classes.old) name.now place ≡ Ok (items classes.new))
         (λ e. added_class (plan site.now).classes (items classes.old) name.now place ≡ Err e) }
 {
+    // As with a node; one function for both would take the list, its room and the look-up as parameters.
     if !is_name(name) || classes.len() >= 16 {
-        return Err(Refusal {
-            cause: Cause::OverLimit,
-            place,
-        });
+        return Err(Cause::OverLimit.at(place));
     }
-    match site.class(name) {
-        Some(class) => {
-            classes.push(class);
-            Ok(())
-        }
-        None => Err(Refusal {
-            cause: Cause::Undeclared,
-            place,
-        }),
-    }
+    let class = site.class(name).ok_or(Cause::Undeclared.at(place))?;
+    classes.push(class).map_err(|_| Cause::OverLimit.at(place))
 }
 
-impl Targeting {
-    fn new() -> Targeting
-        ensures { target_of result ≡ no_target }
+impl<'m> Targeting<'m> {
+    fn new(site: &'m Site) -> Targeting<'m>
+        ensures start { target_of result ≡ no_target }
+        ensures site { result.site.now ≡ site.now }
     {
         Targeting {
+            site,
             stage: Stage::Open,
             target: Target::all(),
         }
     }
+}
 
-    fn is_done(&self) -> bool
-        ensures { result ≡ target_done self.now.stage }
-    {
-        match self.stage {
-            Stage::Done => true,
-            _ => false,
-        }
+impl<'m, 't> Section<'t> for Targeting<'m> {
+    ghost State = { Targets };
+
+    ghost view = { target_of };
+
+    ghost course = { λ t. target_section (plan t.site.now).classes };
+
+    fn due(&self) -> Option<Due> {
+        (self.stage != Stage::Done).then_some(Due::Word)
     }
 
-    // Moves on by one word, in place.
-    fn meet(&mut self, site: &Site, word: Word, bytes: &[u8], place: usize) -> Result<(), Refusal>
-        ensures { MatchResult result
-            (λ _. meet_target (plan site.now).classes (target_of self.old) word bytes.now place ≡ Ok (target_of self.new))
-            (λ e. meet_target (plan site.now).classes (target_of self.old) word bytes.now place ≡ Err e) }
-    {
+    fn meet(&mut self, word: Word, bytes: &'t [u8], place: usize) -> Result<(), Refusal> {
         match (self.stage, word) {
             (Stage::Open, Word::Sign(Sign::Open)) => self.stage = Stage::First,
             (Stage::First, Word::Sign(Sign::Star)) => {
                 self.target.scope = Scope::All;
                 self.stage = Stage::Close;
             }
-            (Stage::First, Word::Name) if is_word(bytes, b"traffic_class") => self.stage =
+            (Stage::First, Word::Name) if bytes == b"traffic_class".as_slice() => self.stage =
                 Stage::Sign,
-            (Stage::Sign, Word::Sign(Sign::Same)) => {
-                self.target.scope = Scope::Only;
-                self.stage = Stage::List;
-            }
-            (Stage::Sign, Word::Sign(Sign::Equals)) => {
+            (Stage::Sign, Word::Sign(Sign::Same | Sign::Equals)) => {
                 self.target.scope = Scope::Only;
                 self.stage = Stage::List;
             }
@@ -154,32 +133,23 @@ impl Targeting {
             }
             (Stage::List, Word::Sign(Sign::Open)) => self.stage = Stage::Class,
             (Stage::Class, Word::Name) => {
-                add_class(site, &mut self.target.classes, bytes, place)?;
+                add_class(self.site, &mut self.target.classes, bytes, place)?;
                 self.stage = Stage::After;
             }
             (Stage::After, Word::Sign(Sign::Comma)) => self.stage = Stage::Class,
             (Stage::After, Word::Sign(Sign::Close)) => self.stage = Stage::Close,
             (Stage::Close, Word::Sign(Sign::Close)) => self.stage = Stage::Done,
-            _ => return Err(Refusal {
-                cause: Cause::Unexpected,
-                place,
-            }),
+            _ => return Err(Cause::Unexpected.at(place)),
         }
         Ok(())
     }
 }
 
 // The section of the target from a place on, and the place after it.
-pub fn read_target(site: &Site, text: &[u8], at: usize) -> Result<(Targeting, usize), Refusal>
-    ensures is { viewed target_of result ≡ read_section (target_section (plan site.now).classes) text.now no_target at }
+pub fn read_target(site: &Site, text: &[u8], at: usize) -> Result<(Target, usize), Refusal>
+    ensures is { viewed target_read result ≡ read_section (target_section (plan site.now).classes) text.now no_target at }
     ensures within { at ≤ length text.now → IfOk result (λ p. p.1 ≤ length text.now) }
 {
-    let mut targeting = Targeting::new();
-    let mut at = at;
-    while !targeting.is_done() {
-        let found = word_from(text, at)?;
-        targeting.meet(site, found.word, found.bytes(text), found.from)?;
-        at = found.to;
-    }
-    Ok((targeting, at))
+    let (targeting, end) = read(Targeting::new(site), text, at)?;
+    Ok((targeting.target, end))
 }

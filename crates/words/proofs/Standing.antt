@@ -2,16 +2,15 @@
 use Rattle.std.proofs.Common.{◌≡◌, ℕ, suc, ◌+◌, ◌<◌, ◌≤◌, min, Bool, true, false, List, ◌∷◌, ◌++◌, length, get_or, take, drop, Ok, Err, Result, sym, refl, ap, ◌∙◌, subst, inl, inr, arith, drop-cons}
 use Rattle.std.specs.List.{prefix_len}
 use Rattle.std.proofs.lemmas.List.{take-append-drop, length-append, length-drop, length-take-le, take_all, drop_at, take_at, drop-drop}
-use Rattle.std.proofs.lemmas.List.Sums.{prefix_len-le-length}
+use Rattle.std.proofs.lemmas.List.Sums.{prefix_len-le-length, prefix_len_stops}
 use Rattle.site.specs.declared.refusals.Cause.{Cause}
 use Rattle.site.specs.declared.refusals.Cause.TheVariants.{TextEnds, Unexpected}
 use Rattle.site.specs.declared.refusals.Refusal.{Refusal}
 use Rattle.words.specs.declared.words.Found.{Found as Read}
 use Rattle.words.specs.declared.words.Word.{Word}
-use Rattle.words.specs.Words.{blank, bytes_of, moved, due_from}
+use Rattle.words.specs.Words.{blank, bytes_of, moved, due_of, due_at, due_from}
 use Rattle.words.specs.Writing.{Token, Each, spelling, valued, Stands, kind, WordAt, NoWordAt, ended, unexpected, ReadAsItStands}
-use Rattle.words.proofs.Runs.{ends_at}
-use Rattle.words.proofs.Tokens.{due_of, due_at, split_due, is_read, was_written, fronts, takes, Why, why, stop}
+use Rattle.words.proofs.Tokens.{split_due, is_read, was_written, fronts, takes, Why, why, stop}
 
 pub no_way : {X E : Type 0} {x : X} {e : E} → Err e ≡ Ok x → ⊥
 no_way p = let z : ◌≡◌ {A = ℕ} 0 1 = cc in omega arith
@@ -113,7 +112,7 @@ module _ (text : List ℕ) (at : ℕ) (b : Bool) (e : Refusal) where
       let lt : n < length bs = omega (arith, w.1) in
       let parts : bs ≡ take n bs ++ (get_or bs n 0 ∷ drop (suc n) bs) = sym (take-append-drop n bs) ∙ ap (λ l. take n bs ++ l) (drop-cons bs n 0 lt) in
       let is : e ≡ stop Unexpected (at + length (take n bs)) = moved_on x Unexpected g w.0 ∙ ap (stop Unexpected) (omega (arith, length-take-le n bs le)) in
-      subst (λ (y : Refusal). NoWordAt text at y.cause y.place) (sym is) (unexpected (take n bs) (drop (suc n) bs) (get_or bs n 0) parts (fronts blank bs) (ends_at blank bs lt))
+      subst (λ (y : Refusal). NoWordAt text at y.cause y.place) (sym is) (unexpected (take n bs) (drop (suc n) bs) (get_or bs n 0) parts (fronts blank bs) (prefix_len_stops blank bs 0 lt))
 
   pub not_read : due_from b text at ≡ Err e → NoWordAt text at e.cause e.place
   not_read h = why_not (due_of b n (drop n bs)) (why b n (drop n bs)) (sym (ap (moved (min at (length text))) (split_due b bs)) ∙ sym (due_moved b text at) ∙ h)

@@ -12,7 +12,7 @@ use Rattle.site.specs.declared.refusals.Refusal.{Refusal}
 use Rattle.words.specs.declared.words.Found.{Found as Read}
 use Rattle.words.specs.declared.signs.Sign.{Sign}
 use Rattle.words.specs.declared.signs.Sign.TheVariants.{Open, Close, Less, Greater, Comma, Semicolon, Same, Equals, Differs, AtLeast, AtMost, Star, Becomes}
-use Rattle.words.specs.Words.{blank, value_byte, sign_of, signed, word_of, value_of, word_at, value_at}
+use Rattle.words.specs.Words.{blank, value_byte, sign_of, signed, due_of, due_at}
 use Rattle.words.specs.Writing.{Token, name, value, sign, Each, none, also, sign_bytes, spelling, Sound, valued, Longest, kind}
 use Rattle.words.proofs.Steps as steps
 
@@ -138,10 +138,6 @@ value_here v more so l =
 abbrev pub read_at : ℕ → Token → Result Read Refusal
 read_at n t = Ok (record { word = kind t; from = n; to = n + length (spelling t) })
 
--- the word, or the value, that is due
-abbrev pub due_of : Bool → ℕ → List ℕ → Result Read Refusal
-due_of b n bs = cond b (value_of n bs) (word_of n bs)
-
 here : (n : ℕ) (t : Token) (more : List ℕ) → Sound t → Longest t more → due_of (valued t) n (spelling t ++ more) ≡ read_at n t
 here n (name []) more so l = absurd (omega arith)
 here n (name (c ∷ cs)) more so l =
@@ -154,10 +150,6 @@ here n (value (c ∷ cs)) more so l =
     let m : prefix_len value_byte ((c ∷ cs) ++ more) ≡ length (c ∷ cs) = value_here (c ∷ cs) more so l in
     steps.valued n ((c ∷ cs) ++ more) a (length (c ∷ cs)) (sym m) (ne_eqb (length (c ∷ cs)) 0 (λ e. omega arith))
 here n (sign s) more so l = steps.at_sign n (sign_bytes s ++ more) (some s more) _ (sym (sign_here s more l)) (no_name s more)
-
--- past the blanks of a part
-abbrev pub due_at : Bool → List ℕ → Result Read Refusal
-due_at b bs = cond b (value_at bs) (word_at bs)
 
 pub split_due : (b : Bool) (bs : List ℕ) → due_at b bs ≡ due_of b (prefix_len blank bs) (drop (prefix_len blank bs) bs)
 split_due true bs = refl

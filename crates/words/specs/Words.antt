@@ -3,11 +3,14 @@
 --   sign_of                 the sign that two bytes begin
 --   word_of, value_of       the word at the front of bytes, where no blank stands
 --   word_at, value_at       the same past the blanks of a part of the text
---   word_from, value_from   the same from a place of the text on; `due_from` is the one that is due
+--   word_from, value_from   the same from a place of the text on
+--   wants_value             whether a value is due; `due_of`, `due_at` and `due_from` are the word or the value that is
+--   leading                 the word that is due at the front of bytes, and its length
 --   bytes_of, Inside        the bytes of a word that was found, and that it lies in the text
 --   any_more, More          whether a word may still come
 use Rattle.std.specs.Prelude.{◌≡◌, ℕ, ◌+◌, ◌-◌, ◌<◌, ◌≤◌, min, Bool, true, false, cond, ◌||◌, List, length, take, drop, Some, None, Ok, Err, Option, Result, ◌==◌, nat_lt, slice_index}
 use Rattle.std.specs.List.{prefix_len}
+use Rattle.std.specs.Option.{option_map}
 use Rattle.fixed.specs.Spelling.{name_byte}
 use Rattle.site.specs.declared.refusals.Refusal.{Refusal}
 use Rattle.site.specs.declared.refusals.Cause.TheVariants.{TextEnds, Unexpected}
@@ -17,6 +20,8 @@ use Rattle.words.specs.declared.signs.Sign.TheVariants.{Open, Close, Less, Great
 use Rattle.words.specs.declared.words.Word.{Word}
 use Rattle.words.specs.declared.words.Word.TheVariants.{Name, Value, Sign as SignWord}
 use Rattle.words.specs.declared.words.Found.{Found}
+use Rattle.words.specs.declared.words.Due.{Due}
+use Rattle.words.specs.declared.words.Due.TheVariants as due
 
 -- space, tab, carriage return, line feed
 abbrev pub blank : ℕ → Bool
@@ -70,6 +75,28 @@ word_at bs = word_of (prefix_len blank bs) (drop (prefix_len blank bs) bs)
 -- the value at the front of a part, past its blanks
 abbrev pub value_at : List ℕ → Result Found Refusal
 value_at bs = value_of (prefix_len blank bs) (drop (prefix_len blank bs) bs)
+
+-- whether a value is due
+abbrev pub wants_value : Due → Bool
+wants_value due.Word = false
+wants_value due.Value = true
+
+-- a sign and its length, as a word
+abbrev pub as_word : Sign × ℕ → Word × ℕ
+as_word s = (SignWord s.0, s.1)
+
+-- the word at the front of bs, and its length; bytes that begin none have none
+abbrev pub leading : Bool → List ℕ → Option (Word × ℕ)
+leading true bs = cond (prefix_len value_byte bs == 0) None (Some (Value, prefix_len value_byte bs))
+leading false bs = cond (prefix_len name_byte bs == 0) (option_map as_word (sign_of (slice_index bs 0) (slice_index bs 1))) (Some (Name, prefix_len name_byte bs))
+
+-- the value, or the name or sign, that is due at the front of bs, where no blank stands, after n blanks
+abbrev pub due_of : Bool → ℕ → List ℕ → Result Found Refusal
+due_of value n bs = cond value (value_of n bs) (word_of n bs)
+
+-- the same at the front of a part, past its blanks
+abbrev pub due_at : Bool → List ℕ → Result Found Refusal
+due_at value bs = cond value (value_at bs) (word_at bs)
 
 -- what was read of the part that begins at a place, with places counted in the whole text
 abbrev pub moved : ℕ → Result Found Refusal → Result Found Refusal

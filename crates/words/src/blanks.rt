@@ -6,7 +6,7 @@ ghost use Rattle.words.specs.Words.{blank, More, any_more};
 fn is_blank(b: u8) -> bool
     ensures { result ≡ blank b }
 {
-    b == b' ' || b == b'\t' || b == b'\r' || b == b'\n'
+    matches!(b, b' ' | b'\t' | b'\r' | b'\n')
 }
 
 // How many blanks stand at the front.
@@ -14,12 +14,7 @@ pub(crate) fn blank_run(part: &[u8]) -> usize
     ensures is { result ≡ prefix_len blank part.now }
     ensures within { result ≤ length part.now }
 {
-    for (i, b) in part.iter().enumerate() {
-        if !is_blank(*b) {
-            return i;
-        }
-    }
-    part.len()
+    part.iter().take_while(|b| is_blank(**b)).count()
 }
 
 // Whether a byte other than a blank stands at a place or after it.

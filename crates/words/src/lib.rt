@@ -7,4 +7,4 @@ mod words;
 
 pub use blanks::more;
 pub use signs::Sign;
-pub use words::{Found, Word, is_word, value_from, word_from};
+pub use words::{Due, Found, Word, word_from};
