@@ -91,8 +91,8 @@ module _ {C : Type 0} (id : List ℕ) where
 
 -- no call stands before the first
 unbegun : {X : Type 0} (xs ys : List X) (x : X) → [] ≡ xs ++ x ∷ ys → ⊥
-unbegun [] ys x e = let z : ◌≡◌ {A = ℕ} 0 1 = cc in omega arith
-unbegun (y ∷ xs) ys x e = let z : ◌≡◌ {A = ℕ} 0 1 = cc in omega arith
+unbegun [] ys x e = cc
+unbegun (y ∷ xs) ys x e = cc
 
 module _ {C P : Type 0} (s : Plan) (k : Sense C P) where
   -- the last call is the admit that read the rule
@@ -160,15 +160,15 @@ module _ {C P : Type 0} (s : Plan) (k : Sense C P) where
   each_so : {room : ℕ} (h : List (Step P)) {rs : List (Ruling C)} → LedTo s k room h rs → (r : Ruling C) → Has rs r → Admitted s k h r
   each_so [] at_first r x = absurd (has_none x)
   each_so (admit text place (Ok end) ∷ h) (next {rs = rs} c l (admits {r = q} e n m)) r x = ⊎_elim
-      (λ y. further (admit text place (Ok end)) h r (λ w. (let z : ◌≡◌ {A = ℕ} 0 1 = cc in omega arith)) (each_so h l r y))
+      (λ y. further (admit text place (Ok end)) h r (λ w. (cc)) (each_so h l r y))
       (λ y. new_one text place end h q r e y)
       (has_cases rs (read (read_rule k s text place)) r x)
-  each_so (admit text place (Err why) ∷ h) (next c l _) r x = further (admit text place (Err why)) h r (λ w. (let z : ◌≡◌ {A = ℕ} 0 1 = cc in omega arith)) (each_so h l r x)
+  each_so (admit text place (Err why) ∷ h) (next c l _) r x = further (admit text place (Err why)) h r (λ w. (cc)) (each_so h l r x)
   each_so (withdraw id (Ok u) ∷ h) (next {rs = rs} c l _) r x = further (withdraw id (Ok u)) h r (λ w. without_gone id rs (ids_so h l) r x (let e : id ≡ r.id = cc in sym e)) (each_so h l r (has_without id rs r x))
-  each_so (withdraw id (Err why) ∷ h) (next c l _) r x = further (withdraw id (Err why)) h r (λ w. (let z : ◌≡◌ {A = ℕ} 0 1 = cc in omega arith)) (each_so h l r x)
-  each_so (report old a new ∷ h) (next c l _) r x = further (report old a new) h r (λ w. (let z : ◌≡◌ {A = ℕ} 0 1 = cc in omega arith)) (each_so h l r x)
-  each_so (decide port class point a ∷ h) (next c l _) r x = further (decide port class point a) h r (λ w. (let z : ◌≡◌ {A = ℕ} 0 1 = cc in omega arith)) (each_so h l r x)
-  each_so (route position port old a new ∷ h) (next c l _) r x = further (route position port old a new) h r (λ w. (let z : ◌≡◌ {A = ℕ} 0 1 = cc in omega arith)) (each_so h l r x)
+  each_so (withdraw id (Err why) ∷ h) (next c l _) r x = further (withdraw id (Err why)) h r (λ w. (cc)) (each_so h l r x)
+  each_so (report old a new ∷ h) (next c l _) r x = further (report old a new) h r (λ w. (cc)) (each_so h l r x)
+  each_so (decide port class point a ∷ h) (next c l _) r x = further (decide port class point a) h r (λ w. (cc)) (each_so h l r x)
+  each_so (route position port old a new ∷ h) (next c l _) r x = further (route position port old a new) h r (λ w. (cc)) (each_so h l r x)
 
   all_so : {room : ℕ} (h : List (Step P)) {rs : List (Ruling C)} → LedTo s k room h rs → (r : Ruling C) → Admitted s k h r → Has rs r
   all_so [] at_first r a = absurd (unbegun a.later a.earlier _ a.is)
@@ -230,13 +230,13 @@ module _ {C P : Type 0} (s : Plan) (k : Sense C P) where
   in_turn_so : {room : ℕ} (h : List (Step P)) {rs : List (Ruling C)} → LedTo s k room h rs → InTurn h rs
   in_turn_so [] at_first = λ i j q r p o lt a b. absurd (has_none (nth_has [] i q p))
   in_turn_so (admit text place (Ok end) ∷ h) (next {rs = rs} c l (admits {r = q} e n m)) = subst (λ z. InTurn (admit text place (Ok end) ∷ h) (rs ++ read z)) (sym e) (in_turn_admit text place end h rs q e n (λ r a. all_so h l r a) (in_turn_so h l))
-  in_turn_so (admit text place (Err why) ∷ h) (next {rs = rs} c l _) = in_turn_after (admit text place (Err why)) h rs (λ t p e w. (let z : ◌≡◌ {A = ℕ} 0 1 = cc in omega arith)) (in_turn_so h l)
-  in_turn_so (withdraw id (Ok u) ∷ h) (next {rs = rs} c l _) = in_turn_after (withdraw id (Ok u)) h (without id rs) (λ t p e w. (let z : ◌≡◌ {A = ℕ} 0 1 = cc in omega arith))
+  in_turn_so (admit text place (Err why) ∷ h) (next {rs = rs} c l _) = in_turn_after (admit text place (Err why)) h rs (λ t p e w. (cc)) (in_turn_so h l)
+  in_turn_so (withdraw id (Ok u) ∷ h) (next {rs = rs} c l _) = in_turn_after (withdraw id (Ok u)) h (without id rs) (λ t p e w. (cc))
       (λ i j q r p o lt a b. (let w = were_at id rs i j q r p o lt in in_turn_so h l w.0 w.1 q r w.2 w.3 w.4 a b))
-  in_turn_so (withdraw id (Err why) ∷ h) (next {rs = rs} c l _) = in_turn_after (withdraw id (Err why)) h rs (λ t p e w. (let z : ◌≡◌ {A = ℕ} 0 1 = cc in omega arith)) (in_turn_so h l)
-  in_turn_so (report old a new ∷ h) (next {rs = rs} c l _) = in_turn_after (report old a new) h rs (λ t p e w. (let z : ◌≡◌ {A = ℕ} 0 1 = cc in omega arith)) (in_turn_so h l)
-  in_turn_so (decide port class point a ∷ h) (next {rs = rs} c l _) = in_turn_after (decide port class point a) h rs (λ t p e w. (let z : ◌≡◌ {A = ℕ} 0 1 = cc in omega arith)) (in_turn_so h l)
-  in_turn_so (route position port old a new ∷ h) (next {rs = rs} c l _) = in_turn_after (route position port old a new) h rs (λ t p e w. (let z : ◌≡◌ {A = ℕ} 0 1 = cc in omega arith)) (in_turn_so h l)
+  in_turn_so (withdraw id (Err why) ∷ h) (next {rs = rs} c l _) = in_turn_after (withdraw id (Err why)) h rs (λ t p e w. (cc)) (in_turn_so h l)
+  in_turn_so (report old a new ∷ h) (next {rs = rs} c l _) = in_turn_after (report old a new) h rs (λ t p e w. (cc)) (in_turn_so h l)
+  in_turn_so (decide port class point a ∷ h) (next {rs = rs} c l _) = in_turn_after (decide port class point a) h rs (λ t p e w. (cc)) (in_turn_so h l)
+  in_turn_so (route position port old a new ∷ h) (next {rs = rs} c l _) = in_turn_after (route position port old a new) h rs (λ t p e w. (cc)) (in_turn_so h l)
 
   pub by_calls : {room : ℕ} (h : List (Step P)) {rs : List (Ruling C)} → LedTo s k room h rs → StandByCalls s k h rs
   by_calls h l = record { each = λ r x. each_so h l r x; all = λ r a. all_so h l r a; in_order = in_turn_so h l }

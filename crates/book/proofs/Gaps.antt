@@ -1,6 +1,5 @@
 -- What a turn by one place of the part from i to n leaves before n - 1.
-use Rattle.std.proofs.Common.{◌≡◌, ℕ, suc, ◌-◌, ◌<◌, ◌≤◌, List, ◌++◌, map, length, take, drop, sym, ap, ◌∙◌, append_assoc, add-one, arith, length-append, length-drop, length-take}
-use native.Mathlib.Nat.{sub-zero}
+use Rattle.std.proofs.Common.{◌≡◌, ℕ, suc, ◌-◌, ◌<◌, ◌≤◌, List, ◌++◌, length, take, drop, sym, ap, ◌∙◌, append_assoc, add-one, arith, length-append, length-drop, length-take}
 use borrow.Rule.Slice.PartMut.{put_mid, post_of}
 use Rattle.std.specs.List.{remove, between}
 use Rattle.std.proofs.lemmas.List.{take-take, take_at, drop-drop}
@@ -24,7 +23,3 @@ closed {X} xs ys i n lt le e =
 -- how many there are in a front
 pub front_len : {X : Type 0} (xs : List X) (n : ℕ) → n ≤ length xs → length (take n xs) ≡ n
 front_len xs n le = simp length-take (omega arith)
-
--- the part that is handed to a function of the rules, seen as these rules
-pub handed : {X Y : Type 0} (view : X → Y) (xs : List X) (n : ℕ) (ys : List Y) → map view (take n xs) ≡ ys → map view (take (n - 0) xs) ≡ ys
-handed view xs n ys e = ap (λ m. map view (take m xs)) (sub-zero n) ∙ e

@@ -65,8 +65,8 @@ has_open {P} (e ∷ es) f h = elim (by_has e.mark e (only_open es) f refl h) [
 by_here : {P : Type 0} (m : Mark) (e : Entry P) (es : List (Entry P)) → m ≡ Open → Has (by_mark m e es) e
 unfolding by_mark
 by_here Open e es q = here
-by_here First e es q = let z : ◌≡◌ {A = ℕ} 0 1 = cc in absurd (omega arith)
-by_here Second e es q = let z : ◌≡◌ {A = ℕ} 0 1 = cc in absurd (omega arith)
+by_here First e es q = absurd cc
+by_here Second e es q = absurd cc
 
 by_there : {P : Type 0} (m : Mark) (e : Entry P) (es : List (Entry P)) (f : Entry P) → Has es f → Has (by_mark m e es) f
 unfolding by_mark
@@ -119,7 +119,7 @@ module _ {C P : Type 0} (site : Plan) (k : Sense C P) (laws : Laws k) where
   same_read {r} {r'} {end} {end'} p q = let e : ◌≡◌ {A = Ruling C × ℕ} (r, end) (r', end') = cc in (ap (λ (z : Ruling C × ℕ). z.0) e, ap (λ (z : Ruling C × ℕ). z.1) e)
 
   read_or_not : {r : Ruling C} {end : ℕ} {why : Refusal} {o : Result (Ruling C × ℕ) Refusal} → o ≡ Ok (r, end) → o ≡ Err why → ⊥
-  read_or_not p q = let z : ◌≡◌ {A = ℕ} 0 1 = cc in omega arith
+  read_or_not p q = cc
 
   same_why : {why why' : Refusal} {o : Result (Ruling C × ℕ) Refusal} → o ≡ Err why → o ≡ Err why' → why ≡ why'
   same_why p q = cc

@@ -52,7 +52,7 @@ ok_same : {A E : Type 0} {x y : A} → ◌≡◌ {A = Result A E} (Ok x) (Ok y) 
 ok_same e = cc
 
 no_way : {A E : Type 0} {x : A} {w : E} → ◌≡◌ {A = Result A E} (Err w) (Ok x) → ⊥
-no_way e = let z : ◌≡◌ {A = ℕ} 0 1 = cc in omega arith
+no_way e = cc
 
 went_on : {A B : Type 0} (go : A → Result B Refusal) (m : Result A Refusal) (y : B) → onward go m ≡ Ok y → (x : A) × (m ≡ Ok x) × (go x ≡ Ok y)
 went_on go (Ok x) y e = (x, refl, e)

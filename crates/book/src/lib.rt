@@ -3,7 +3,6 @@
 #![tactic(auto)]
 
 mod book;
-mod places;
 mod routing;
 
 pub use book::Book;

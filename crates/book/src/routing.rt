@@ -9,6 +9,7 @@ use rules::Rule;
 use site::Site;
 
 // Draws a path of the rule at a position that touches the port, if there is such a rule and such a path.
+// Five parameters: the book's site and standing rules, and what is asked; no other call takes these five.
 pub(crate) fn draw<K>(
     site: &Site,
     rules: &[Rule<K>],
@@ -19,8 +20,6 @@ pub(crate) fn draw<K>(
     requires { 48 ≤ length out.old }
     ensures { MatchOption result ((out.new ≡ out.old) × NoneDrawn (plan site.now) (map rule_of rules.now) position port) (λ n. DrawnAt (plan site.now) (map rule_of rules.now) position port out.old n out.new) }
 {
-    if position >= rules.len() {
-        return None;
-    }
-    own_path(site, rules[position].patterns.as_slice(), port, out)
+    let rule = rules.get(position)?;
+    own_path(site, rule.routes.as_slice(), port, out)
 }

@@ -1,18 +1,18 @@
 // How what several rules say is settled: the smallest rank number counts.
-ghost use Rattle.std.specs.Prelude.{◌≡◌, ◌||◌, map};
+ghost use Rattle.std.specs.Prelude.{◌≡◌, map};
 ghost use Rattle.site.specs.Sites.{plan};
 ghost use Rattle.rules.specs.Rules.{rule_of};
 ghost use Rattle.deciding.specs.Deciding.{Decides};
-ghost use Rattle.deciding.specs.Tallies.{heard, joined, counted, verdict};
+ghost use Rattle.deciding.specs.Tallies.{both, joined, counted, verdict};
 
 use kind::Kind;
-use pairs::said;
-use paths::Port;
+use pairs::{Spot, said};
 use rules::{Rule, Saying};
 use site::Site;
+use std::cmp::Ordering;
 
 // What rules decide at a port, a class and a point.
-#[derive(Clone, Copy)]
+#[derive(Clone, Copy, Debug, PartialEq, Eq)]
 pub enum Decision {
     Permit,
     Deny,
@@ -20,110 +20,82 @@ pub enum Decision {
     Silent,
 }
 
-// What the rules of the smallest rank number so far said.
+// What rules of one rank number said, of which at least one spoke.
 #[derive(Clone, Copy)]
-struct Tally {
-    spoken: bool,
-    rank: u8,
-    permits: bool,
-    denies: bool,
+enum Said {
+    Permit,
+    Deny,
+    Both,
 }
 
-// What the rules decide at a port, a class and a point.
-pub fn settle<K: Kind>(
-    site: &Site,
-    rules: &[Rule<K>],
-    port: Port,
-    class: u8,
-    point: &K::Point,
-) -> Decision
-    ensures { Decides (plan site.now) K.Kind.sense (map rule_of rules.now) port class point.now result }
+// The smallest rank number heard, and what was said at it.
+#[derive(Clone, Copy)]
+struct Hearing {
+    rank: u8,
+    said: Said,
+}
+
+// What the rules decide there.
+pub fn settle<K: Kind>(site: &Site, rules: &[Rule<K>], spot: &Spot<K::Point>) -> Decision
+    ensures { Decides (plan site.now) K.Kind.sense (map rule_of rules.now) spot.now.port spot.now.class spot.now.point.now result }
 {
-    let mut tally = Tally {
-        spoken: false,
-        rank: 0,
-        permits: false,
-        denies: false,
-    };
-    for rule in rules {
-        let said = heard(site, rule, port, class, point);
-        tally = counted(tally, rule.rank, said);
-    }
+    let tally = rules.iter().fold(None, |tally, rule| {
+        // A rule is silent where it does not touch the port or does not hold at the point.
+        let heard = if rule.ports.contains(site, spot.port) && rule.condition.contains(spot.point) {
+            said(site, rule, spot.class)
+        } else {
+            Saying::Silent
+        };
+        counted(tally, rule.rank, heard)
+    });
     verdict(tally)
 }
 
-// What a rule says there; silent where it does not touch the port or does not hold at the point.
-fn heard<K: Kind>(site: &Site, rule: &Rule<K>, port: Port, class: u8, point: &K::Point) -> Saying
-    ensures { result ≡ heard (plan site.now) K.Kind.sense port class point.now (rule_of rule.now) }
-{
-    if rule.ports.contains(site, port) && rule.condition.contains(point) {
-        said(site, rule, class)
-    } else {
-        Saying::Silent
-    }
-}
-
-// A tally with what one rule more says.
-fn counted(tally: Tally, rank: u8, said: Saying) -> Tally
+// What was heard, with what one rule more says.
+fn counted(tally: Option<Hearing>, rank: u8, said: Saying) -> Option<Hearing>
     ensures { result ≡ counted tally rank said }
 {
-    match said {
-        Saying::Silent => tally,
-        Saying::Permit => joined(
-            tally,
-            Tally {
-                spoken: true,
-                rank,
-                permits: true,
-                denies: false,
+    let said = match said {
+        Saying::Silent => return tally,
+        Saying::Permit => Said::Permit,
+        Saying::Deny => Said::Deny,
+    };
+    let more = Hearing { rank, said };
+    Some(tally.map_or(more, |heard| heard.joined(more)))
+}
+
+impl Hearing {
+    // Both in one.
+    fn joined(self, more: Hearing) -> Hearing
+        ensures { result ≡ joined self more }
+    {
+        match self.rank.cmp(&more.rank) {
+            Ordering::Less => self,
+            Ordering::Greater => more,
+            Ordering::Equal => Hearing {
+                rank: self.rank,
+                said: both(self.said, more.said),
             },
-        ),
-        Saying::Deny => joined(
-            tally,
-            Tally {
-                spoken: true,
-                rank,
-                permits: false,
-                denies: true,
-            },
-        ),
+        }
     }
 }
 
-// Two tallies in one; the second has heard something.
-fn joined(tally: Tally, more: Tally) -> Tally
-    ensures { result ≡ joined tally more }
+fn both(one: Said, other: Said) -> Said
+    ensures { result ≡ both one other }
 {
-    if !tally.spoken {
-        return more;
-    }
-    if tally.rank < more.rank {
-        return tally;
-    }
-    if more.rank < tally.rank {
-        return more;
-    }
-    Tally {
-        spoken: true,
-        rank: tally.rank,
-        permits: either(tally.permits, more.permits),
-        denies: either(tally.denies, more.denies),
+    match (one, other) {
+        (Said::Permit, Said::Permit) | (Said::Deny, Said::Deny) => one,
+        _ => Said::Both,
     }
 }
 
-fn either(a: bool, b: bool) -> bool
-    ensures { result ≡ (a || b) }
+fn verdict(tally: Option<Hearing>) -> Decision
+    ensures { result ≡ verdict tally }
 {
-    a || b
-}
-
-fn verdict(tally: Tally) -> Decision
-    ensures { result ≡ verdict tally.permits tally.denies }
-{
-    match (tally.permits, tally.denies) {
-        (true, true) => Decision::Split,
-        (true, false) => Decision::Permit,
-        (false, true) => Decision::Deny,
-        (false, false) => Decision::Silent,
+    match tally.map(|heard| heard.said) {
+        None => Decision::Silent,
+        Some(Said::Permit) => Decision::Permit,
+        Some(Said::Deny) => Decision::Deny,
+        Some(Said::Both) => Decision::Split,
     }
 }

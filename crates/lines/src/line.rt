@@ -5,7 +5,9 @@ ghost use Rattle.fixed.specs.Names.{spelling};
 ghost use Rattle.lines.specs.Lines.{written};
 
 use fixed::{Name, Table};
+use itoa::Buffer;
 
+// By hand: what `write!` promises leaves open that it fails, and putting never does.
 #[derive(Clone, Copy)]
 pub(crate) struct Line {
     text: Table<u8, 128>,
@@ -30,9 +32,7 @@ impl Line {
     pub(crate) fn put(&mut self, bytes: &[u8])
         ensures { written self.new ≡ take 128 (written self.old ++ bytes.now) }
     {
-        for b in bytes {
-            self.text.push(*b);
-        }
+        self.text.extend_from_slice(bytes);
     }
 
     // Puts a number in digits.
@@ -40,20 +40,16 @@ impl Line {
         ensures text { written self.new ≡ take 128 (written self.old ++ decimal n) }
         ensures short { length (decimal n) ≤ 20 }
     {
-        if n >= 10 {
-            self.put_number(n / 10);
-        }
-        let digit = [b'0' + (n % 10) as u8];
-        self.put(&digit);
+        let mut digits = Buffer::new();
+        self.put(digits.format(n).as_bytes());
     }
 
     // Puts a name, if there is one.
     pub(crate) fn put_name(&mut self, name: Option<Name>)
         ensures { written self.new ≡ take 128 (written self.old ++ unwrap_or (option_map spelling name) []) }
     {
-        match name {
-            Some(name) => self.put(name.as_bytes()),
-            None => self.put(b""),
+        if let Some(name) = name {
+            self.put(name.as_bytes());
         }
     }
 }

@@ -29,19 +29,14 @@ has_nth here = (0, refl)
 has_nth (there h) = (suc (has_nth h).0, (has_nth h).1)
 
 pub nth_has : {X : Type 0} (xs : List X) (i : ℕ) (x : X) → slice_get xs i ≡ Some x → Has xs x
-nth_has [] i x e = let z : ◌≡◌ {A = ℕ} 0 1 = cc in absurd (omega arith)
+nth_has [] i x e = absurd cc
 nth_has (y ∷ xs) zero x e = let q : y ≡ x = cc in subst (λ z. Has (y ∷ xs) z) q here
 nth_has (y ∷ xs) (suc i) x e = there (nth_has xs i x e)
 
 pub nth_longer : {X : Type 0} (xs ys : List X) (i : ℕ) (x : X) → slice_get xs i ≡ Some x → slice_get (xs ++ ys) i ≡ Some x
-nth_longer [] ys i x e = let z : ◌≡◌ {A = ℕ} 0 1 = cc in absurd (omega arith)
+nth_longer [] ys i x e = absurd cc
 nth_longer (y ∷ xs) ys zero x e = e
 nth_longer (y ∷ xs) ys (suc i) x e = nth_longer xs ys i x e
-
-pub nth_within : {X : Type 0} (xs : List X) (i : ℕ) (x : X) → slice_get xs i ≡ Some x → i < length xs
-nth_within [] i x e = let z : ◌≡◌ {A = ℕ} 0 1 = cc in absurd (omega arith)
-nth_within (y ∷ xs) zero x e = omega arith
-nth_within (y ∷ xs) (suc i) x e = let q = nth_within xs i x e in omega arith
 
 pub nth_one : {X : Type 0} {o : Option X} {x y : X} → o ≡ Some x → o ≡ Some y → x ≡ y
 nth_one p q = cc
@@ -49,7 +44,7 @@ nth_one p q = cc
 -- the element at a place of a list with one more at its end
 pub nth_push : {X : Type 0} (xs : List X) (x : X) (i : ℕ) (y : X) → slice_get (xs ++ x ∷ []) i ≡ Some y → ((i < length xs) × (slice_get xs i ≡ Some y)) ⊎ ((i ≡ length xs) × (x ≡ y))
 nth_push [] x zero y e = inr (refl, cc)
-nth_push [] x (suc i) y e = let z : ◌≡◌ {A = ℕ} 0 1 = cc in absurd (omega arith)
+nth_push [] x (suc i) y e = absurd cc
 nth_push (w ∷ xs) x zero y e = inl (omega arith, e)
 nth_push (w ∷ xs) x (suc i) y e = ⊎_elim (λ p. inl (omega (arith, p.0), p.1)) (λ p. inr (ap suc p.0, p.1)) (nth_push xs x i y e)
 

@@ -1,4 +1,9 @@
 pub mod Having
 pub mod Seeing
+pub mod Lasting
+pub mod Classes
+pub mod Marks
 pub mod Naming
 pub mod Alike
+pub mod Running
+pub mod Searching

@@ -2,7 +2,7 @@
 use paths::Port;
 
 // Which of two contradicting rules gives way; neither where the pair is open.
-#[derive(Clone, Copy)]
+#[derive(Clone, Copy, Debug, PartialEq, Eq)]
 pub enum Mark {
     Open,
     First,
@@ -23,7 +23,7 @@ pub struct Entry<P> {
 }
 
 // How many pairs there are, and how many of them are open.
-#[derive(Clone, Copy)]
+#[derive(Clone, Copy, Debug, PartialEq, Eq)]
 pub struct Totals {
     pub pairs: usize,
     pub unsettled: usize,

@@ -1,62 +1,49 @@
 // What two rules disagree on, and which gives way.
-ghost use Rattle.std.specs.Prelude.{◌≡◌, ℕ, true, false, MatchOption};
+ghost use Rattle.std.specs.Prelude.{◌≡◌, ℕ, MatchOption};
 ghost use Rattle.site.specs.Sites.{plan};
 ghost use Rattle.rules.specs.Rules.{rule_of};
-ghost use Rattle.pairs.specs.declared.answers.Entry.{Entry};
 ghost use Rattle.pairs.specs.Disagreement.{saying, opposed, mark_of, Differ, LowestClass, Contradict, Tells};
 
 use crate::answers::{Entry, Mark};
+use crate::walking::Pair;
 use kind::Kind;
 use rules::{Rule, Saying};
 use site::Site;
+use std::cmp::Ordering;
 
-// The entry of the rules at two positions, if they contradict each other.
-pub(crate) fn entry_of<K: Kind>(
-    site: &Site,
-    i: usize,
-    j: usize,
-    a: &Rule<K>,
-    b: &Rule<K>,
-) -> Option<Entry<K::Point>>
-    ensures { MatchOption result (Contradict (plan site.now) K.Kind.sense (rule_of a.now) (rule_of b.now) → ⊥) (λ e. (e.first ≡ i) × (e.second ≡ j) × Tells (plan site.now) K.Kind.sense (rule_of a.now) (rule_of b.now) e) }
+// The entry of two rules, if they contradict each other.
+pub(crate) fn entry_of<K: Kind>(site: &Site, pair: &Pair<K>) -> Option<Entry<K::Point>>
+    ensures { MatchOption result (Contradict (plan site.now) K.Kind.sense (rule_of pair.now.one.now) (rule_of pair.now.other.now) → ⊥) (λ e. (e.first ≡ pair.now.first) × (e.second ≡ pair.now.second) × Tells (plan site.now) K.Kind.sense (rule_of pair.now.one.now) (rule_of pair.now.other.now) e) }
 {
-    let port = a.ports.lowest_common(site, &b.ports)?;
-    let class = contested(site, a, b)?;
-    let point = a.condition.common(&b.condition)?;
+    let Pair {
+        first,
+        second,
+        one,
+        other,
+    } = *pair;
+    let port = one.ports.lowest_common(site, &other.ports)?;
+    let class = contested(site, one, other)?;
+    let point = one.condition.common(&other.condition)?;
     Some(Entry {
-        first: i,
-        second: j,
-        first_place: a.place,
-        second_place: b.place,
+        first,
+        second,
+        first_place: one.place,
+        second_place: other.place,
         port,
         class,
         point,
-        mark: mark_for(a.rank, b.rank),
+        mark: mark_for(one.rank, other.rank),
     })
 }
 
-// Whether the rules at two positions contradict each other.
-pub(crate) fn clash<K: Kind>(site: &Site, i: usize, j: usize, a: &Rule<K>, b: &Rule<K>) -> bool
-    ensures yes { result ≡ true → (e : Entry K.Point) × (e.first ≡ i) × (e.second ≡ j) × Tells (plan site.now) K.Kind.sense (rule_of a.now) (rule_of b.now) e }
-    ensures none { result ≡ false → Contradict (plan site.now) K.Kind.sense (rule_of a.now) (rule_of b.now) → ⊥ }
-{
-    match entry_of(site, i, j, a, b) {
-        Some(_) => true,
-        None => false,
-    }
-}
-
 // The lowest class that one permits and the other denies.
-fn contested<K>(site: &Site, a: &Rule<K>, b: &Rule<K>) -> Option<u8>
-    ensures { MatchOption result ((c : ℕ) → Differ (plan site.now) (rule_of a.now) (rule_of b.now) c → ⊥) (λ c. LowestClass (plan site.now) (rule_of a.now) (rule_of b.now) c) }
+fn contested<K>(site: &Site, one: &Rule<K>, other: &Rule<K>) -> Option<u8>
+    ensures { MatchOption result ((c : ℕ) → Differ (plan site.now) (rule_of one.now) (rule_of other.now) c → ⊥) (λ c. LowestClass (plan site.now) (rule_of one.now) (rule_of other.now) c) }
 {
-    let count = site.class_count() as u8;
-    for class in 0..count {
-        if opposed(said(site, a, class), said(site, b, class)) {
-            return Some(class);
-        }
-    }
-    None
+    (0..site.class_count() as u8).find(|class| opposed(
+        said(site, one, *class),
+        said(site, other, *class),
+    ))
 }
 
 // What a rule says of a class, by the reading of the site.
@@ -67,25 +54,22 @@ pub fn said<K>(site: &Site, rule: &Rule<K>, class: u8) -> Saying
 }
 
 // Whether one permits what the other denies.
-fn opposed(a: Saying, b: Saying) -> bool
-    ensures { result ≡ opposed a b }
+fn opposed(one: Saying, other: Saying) -> bool
+    ensures { result ≡ opposed one other }
 {
-    match (a, b) {
-        (Saying::Permit, Saying::Deny) => true,
-        (Saying::Deny, Saying::Permit) => true,
-        (_, _) => false,
-    }
+    matches!(
+        (one, other),
+        (Saying::Permit, Saying::Deny) | (Saying::Deny, Saying::Permit)
+    )
 }
 
 // Which of two rules gives way, by their ranks: the one with the greater number.
-fn mark_for(a: u8, b: u8) -> Mark
-    ensures { result ≡ mark_of a b }
+fn mark_for(first: u8, second: u8) -> Mark
+    ensures { result ≡ mark_of first second }
 {
-    if a == b {
-        Mark::Open
-    } else if a < b {
-        Mark::Second
-    } else {
-        Mark::First
+    match first.cmp(&second) {
+        Ordering::Less => Mark::Second,
+        Ordering::Equal => Mark::Open,
+        Ordering::Greater => Mark::First,
     }
 }

@@ -2,9 +2,13 @@
 #![tactic(auto)]
 
 mod answers;
+mod clashing;
 mod disagreement;
 mod listing;
+mod places;
+mod walking;
 
 pub use answers::{Entry, Mark, Totals};
 pub use disagreement::said;
 pub use listing::list_pairs;
+pub use places::{Spot, check_place};

@@ -1,12 +1,11 @@
 // How rules come to stand in a book, and how they go.
-ghost use Rattle.std.specs.Prelude.{◌≡◌, ◌<◌, map, length, take, MatchOption};
-ghost use Rattle.std.specs.List.{remove};
-ghost use Rattle.rules.specs.Rules.{rule_of};
-ghost use Rattle.book.specs.Books.{rules, Takes};
-ghost use Rattle.book.specs.Runs.{admit, withdraw, Known, without};
+ghost use Rattle.std.specs.Prelude.{◌≡◌, take, position};
+ghost use Rattle.std.specs.Str.{bytes_eq};
+ghost use Rattle.fixed.specs.Names.{spelling};
+ghost use Rattle.book.specs.Books.{Takes};
+ghost use Rattle.book.specs.Runs.{admit, withdraw};
 
 use super::Book;
-use crate::places;
 use kind::Kind;
 use rules::read_rule;
 use site::{Cause, Refusal};
@@ -14,10 +13,11 @@ use site::{Cause, Refusal};
 impl<'m, 'a, K: Kind + Drop> Book<'m, 'a, K> {
     // Where the rule of this id stands.
     fn position(&self, id: &[u8]) -> Option<usize>
-        ensures { MatchOption result (Known id.now (rules self.now) → ⊥) (λ i. (i < length (rules self.now)) × Known id.now (rules self.now) × (map rule_of (remove (take (length (rules self.now)) self.now.slots.now) i) ≡ without id.now (rules self.now))) }
+        ensures { result ≡ position (λ r. bytes_eq (spelling r.id) id.now) (take self.now.len self.now.slots.now) }
     {
-        let n = self.used();
-        places::position(&self.slots[0..n], id)
+        self.standing()
+            .iter()
+            .position(|rule| rule.id.as_bytes() == id)
     }
 
     // Reads one rule of the text, from a place on, and lets it stand behind the others; answers the place after it.
@@ -25,21 +25,14 @@ impl<'m, 'a, K: Kind + Drop> Book<'m, 'a, K> {
         ensures { Takes K.Kind.sense self.old self.new (admit text.now place result) }
     {
         let (rule, end) = read_rule::<K>(self.site, text, place)?;
-        if let Some(_) = self.position(rule.id.as_bytes()) {
-            return Err(Refusal {
-                cause: Cause::IdStands,
-                place: rule.place,
-            });
+        if self.position(rule.id.as_bytes()).is_some() {
+            return Err(Cause::IdStands.at(rule.place));
         }
-        let n = self.used();
-        if n >= self.room() {
-            return Err(Refusal {
-                cause: Cause::BookFull,
-                place: rule.place,
-            });
+        if self.len >= self.room() {
+            return Err(Cause::BookFull.at(rule.place));
         }
-        places::put(self.slots, n, rule);
-        self.len = n + 1;
+        self.slots[self.len] = rule;
+        self.len += 1;
         Ok(end)
     }
 
@@ -47,17 +40,9 @@ impl<'m, 'a, K: Kind + Drop> Book<'m, 'a, K> {
     pub fn withdraw(&mut self, id: &[u8]) -> Result<(), Refusal>
         ensures { Takes K.Kind.sense self.old self.new (withdraw id.now result) }
     {
-        let n = self.used();
-        match self.position(id) {
-            None => Err(Refusal {
-                cause: Cause::NoSuchId,
-                place: 0,
-            }),
-            Some(i) => {
-                places::close(self.slots, i, n);
-                self.len = n - 1;
-                Ok(())
-            }
-        }
+        let i = self.position(id).ok_or(Cause::NoSuchId.at(0))?;
+        self.slots[i..self.len].rotate_left(1);
+        self.len -= 1;
+        Ok(())
     }
 }

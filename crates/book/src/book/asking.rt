@@ -7,7 +7,7 @@ use super::Book;
 use crate::routing;
 use deciding::{Decision, settle};
 use kind::Kind;
-use pairs::{Entry, Totals, list_pairs};
+use pairs::{Entry, Spot, Totals, check_place, list_pairs};
 use paths::Port;
 use site::{Cause, Refusal};
 
@@ -18,8 +18,7 @@ impl<'m, 'a, K: Kind + Drop> Book<'m, 'a, K> {
         ensures law { IfOk result (λ t. (h : List (Step K.Point)) → Led K.Kind.sense h self.now → Reported (map_of self.now) K.Kind.sense h list.new t.pairs t.unsettled) }
         ensures by_paths { IfOk result (λ t. (h : List (Step K.Point)) → Led K.Kind.sense h self.now → ReportedByPaths (map_of self.now) K.Kind.sense h list.new t.pairs) }
     {
-        let n = self.used();
-        list_pairs(self.site, &self.slots[0..n], list)
+        list_pairs(self.site, self.standing(), list)
     }
 
     // What the standing rules decide at a port, a class and a point.
@@ -28,26 +27,9 @@ impl<'m, 'a, K: Kind + Drop> Book<'m, 'a, K> {
         ensures law { IfOk result (λ d. (h : List (Step K.Point)) → Led K.Kind.sense h self.now → Decided (map_of self.now) K.Kind.sense h port class point.now d) }
         ensures by_paths { IfOk result (λ d. (h : List (Step K.Point)) → Led K.Kind.sense h self.now → DecidedByPaths (map_of self.now) K.Kind.sense h port class point.now d) }
     {
-        if !self.site.is_port(port.link, port.node) {
-            return Err(Refusal {
-                cause: Cause::NoPortOrClass,
-                place: 0,
-            });
-        }
-        if class as usize >= self.site.class_count() {
-            return Err(Refusal {
-                cause: Cause::NoPortOrClass,
-                place: 0,
-            });
-        }
-        if !K::on_ground(point) {
-            return Err(Refusal {
-                cause: Cause::OffGround,
-                place: 0,
-            });
-        }
-        let n = self.used();
-        Ok(settle(self.site, &self.slots[0..n], port, class, point))
+        let spot = Spot { port, class, point };
+        check_place::<K>(self.site, &spot)?;
+        Ok(settle(self.site, self.standing(), &spot))
     }
 
     // Writes the nodes of a path of the rule at a position that touches the port, and tells how many they are.
@@ -56,24 +38,12 @@ impl<'m, 'a, K: Kind + Drop> Book<'m, 'a, K> {
         ensures law { (h : List (Step K.Point)) → Led K.Kind.sense h self.now → Routed (map_of self.now) K.Kind.sense h position port out.old result out.new }
     {
         if out.len() < 48 {
-            return Err(Refusal {
-                cause: Cause::NoRoom,
-                place: 0,
-            });
+            return Err(Cause::NoRoom.at(0));
         }
-        if !self.site.is_port(port.link, port.node) {
-            return Err(Refusal {
-                cause: Cause::NoPortOrClass,
-                place: 0,
-            });
+        if !port.is_in(self.site) {
+            return Err(Cause::NoPortOrClass.at(0));
         }
-        let n = self.used();
-        match routing::draw(self.site, &self.slots[0..n], position, port, out) {
-            Some(len) => Ok(len),
-            None => Err(Refusal {
-                cause: Cause::NotTouched,
-                place: 0,
-            }),
-        }
+        let drawn = routing::draw(self.site, self.standing(), position, port, out);
+        drawn.ok_or(Cause::NotTouched.at(0))
     }
 }

@@ -13,7 +13,6 @@ impl<'m, 'a, K: Printable + Drop> Book<'m, 'a, K> {
     pub fn write_entry(&self, entry: &Entry<K::Point>, out: &mut [u8]) -> Result<usize, Refusal>
         ensures { Lined (map_of self.now) K.Kind.sense K.Printable.text (rules self.now) entry.now out.old result out.new }
     {
-        let n = self.used();
-        write_line(self.site, &self.slots[0..n], entry, out)
+        write_line(self.site, self.standing(), entry, out)
     }
 }

@@ -1,6 +1,8 @@
 use Rattle.std.proofs.Common.{◌≡◌, ℕ, ◌≤◌, List, [], ◌++◌, length, take, codes, decimal, ◌∙◌, subst, arith}
 use Rattle.std.proofs.lemmas.List.{take_all}
-use Rattle.lines.specs.Lines.{written, totals_line, Put}
+use Rattle.kind.specs.Texts.{Printed}
+use Rattle.lines.specs.Lines.{written, totals_line}
+use Rattle.lines.proofs.Behind.{put_ok}
 use Rattle.lines.proofs.Cutting.{then, four_short}
 use Rattle.lines.proofs.lines.write_totals.Goals as goal
 
@@ -13,4 +15,5 @@ returns c =
     let three = then 128 (pairs ++ codes " pairs, ") unsettled two c.put_number-2.ensures.text in
     let four = then 128 ((pairs ++ codes " pairs, ") ++ unsettled) (codes " open") three c.put-2.ensures in
     let short : length (totals_line c.args.totals) ≤ 128 = four_short pairs (codes " pairs, ") unsettled (codes " open") (omega (arith, c.put_number.ensures.short, c.put_number-2.ensures.short)) in
-    subst (λ (z : List ℕ). Put z c.args.out.now c.put_front.result c.put_front.new.out) (c.as_slice.ensures ∙ four ∙ take_all 128 (totals_line c.args.totals) short) c.put_front.ensures
+    put_ok (totals_line c.args.totals) c.args.out.now c.put-3.new.out c.put-3.result c.ok_or.result c.at.result c.ok_or.ensures.value c.at.ensures
+    (subst (λ (z : List ℕ). Printed z c.args.out.now c.put-3.result c.put-3.new.out) (c.as_slice.ensures ∙ four ∙ take_all 128 (totals_line c.args.totals) short) c.put-3.ensures)

@@ -1,46 +1,35 @@
-use Rattle.std.proofs.Common.{Ok, sym, refl, subst}
-use native.Mathlib.Nat.{sub-zero}
-use Rattle.site.specs.declared.refusals.Cause.TheVariants.{NoRoom, NoPortOrClass, NotTouched}
-use Rattle.site.specs.Refusals.{refuse}
-use Rattle.book.specs.Books.{map_of, rules, room}
+use Rattle.std.proofs.Common.{◌≡◌, map, Err, MatchOption, sym, refl, subst}
+use Rattle.rules.specs.Rules.{rule_of}
+use Rattle.book.specs.Books.{map_of, room, rules}
 use Rattle.book.specs.Drawing.{DrawnAt, NoneDrawn}
-use Rattle.book.specs.Runs.{Right, route, routes, short_buffer, no_port, untouched}
-use Rattle.book.proofs.Calls.{keeps, asked}
+use Rattle.book.specs.Runs.{Right, route, short_buffer, no_port}
+use Rattle.book.proofs.Calls.{keeps, asked, right_route}
 use Rattle.book.proofs.book.Book.route.Goals as goal
 
-pub returns-then-out-lt48 : goal.returns-then-out-lt48
-returns-then-out-lt48 g c =
+pub returns-then-out-lt48-clause-takes : goal.returns-then-out-lt48-clause-takes
+returns-then-out-lt48-clause-takes g c =
     let b = c.args.self.now in
     let k = g.K.Kind.sense in
     let out = c.args.out.now in
-    let x : Right (map_of b) k (room b) (rules b) (route c.args.position c.args.port out (refuse NoRoom 0) out) = short_buffer c.if-out-lt48.true in
-    record { takes = keeps k b _ x refl; law = asked k b c.args.position c.args.port out out (refuse NoRoom 0) x }
+    let x = subst (λ z. Right (map_of b) k (room b) (rules b) (route c.args.position c.args.port out (Err z) out)) (sym c.at.ensures) (short_buffer c.if-out-lt48.true) in
+    keeps k b _ x refl
 
-pub returns-then-not-is_port : goal.returns-then-not-is_port
-returns-then-not-is_port g c =
+pub returns-then-not-is_in : goal.returns-then-not-is_in
+returns-then-not-is_in g c =
     let b = c.args.self.now in
     let k = g.K.Kind.sense in
     let out = c.args.out.now in
-    let x : Right (map_of b) k (room b) (rules b) (route c.args.position c.args.port out (refuse NoPortOrClass 0) out) = no_port c.if-out-lt48.false (sym c.if-not-is_port.ensures) in
-    record { takes = keeps k b _ x refl; law = asked k b c.args.position c.args.port out out (refuse NoPortOrClass 0) x }
+    let x = subst (λ z. Right (map_of b) k (room b) (rules b) (route c.args.position c.args.port out (Err z) out)) (sym c.at-then-not-is_in.ensures) (no_port c.if-out-lt48.false (sym c.if-not-is_in.ensures)) in
+    record { takes = keeps k b _ x refl; law = asked k b c.args.position c.args.port out out (Err c.at-then-not-is_in.result) x }
 
-pub returns-in-Some : goal.returns-in-Some
-returns-in-Some g c =
+pub returns : goal.returns
+returns g c =
     let b = c.args.self.now in
     let k = g.K.Kind.sense in
+    let s = map_of b in
     let out = c.args.out.now in
-    let after = c.draw.new.out in
-    let m : DrawnAt (map_of b) (rules b) c.args.position c.args.port out c.in-Some.len after = rw (sub-zero, c.used-n.ensures.front) at c.in-Some.ensures in
-    let x : Right (map_of b) k (room b) (rules b) (route c.args.position c.args.port out (Ok c.in-Some.len) after) = routes c.if-out-lt48.false m in
-    record { takes = keeps k b _ x refl; law = asked k b c.args.position c.args.port out after (Ok c.in-Some.len) x }
-
-pub returns-in-None : goal.returns-in-None
-returns-in-None g c =
-    let b = c.args.self.now in
-    let k = g.K.Kind.sense in
-    let out = c.args.out.now in
-    let after = c.draw.new.out in
-    let none : NoneDrawn (map_of b) (rules b) c.args.position c.args.port = rw (sub-zero, c.used-n.ensures.front) at c.in-None.ensures.1 in
-    let x : Right (map_of b) k (room b) (rules b) (route c.args.position c.args.port out (refuse NotTouched 0) after) =
-    subst (λ z. Right (map_of b) k (room b) (rules b) (route c.args.position c.args.port out (refuse NotTouched 0) z)) (sym c.in-None.ensures.0) (untouched c.if-out-lt48.false (sym c.if-not-is_port.ensures) none) in
-    record { takes = keeps k b _ x refl; law = asked k b c.args.position c.args.port out after (refuse NotTouched 0) x }
+    let new = c.draw-drawn.new.out in
+    let x : Right s k (room b) (rules b) (route c.args.position c.args.port out c.ok_or.result new) =
+    right_route s k (room b) (rules b) c.args.position c.args.port out new c.draw-drawn.result c.ok_or.result c.at-2.result c.ok_or.ensures.value c.at-2.ensures c.if-out-lt48.false (sym c.if-not-is_in.ensures)
+    (subst (λ z. MatchOption c.draw-drawn.result ((new ≡ out) × NoneDrawn s (map rule_of z) c.args.position c.args.port) (λ n. DrawnAt s (map rule_of z) c.args.position c.args.port out n new)) c.standing.ensures c.draw-drawn.ensures) in
+    record { takes = keeps k b _ x refl; law = asked k b c.args.position c.args.port out new c.ok_or.result x }
