@@ -2,5 +2,6 @@
 #![tactic(auto)]
 
 mod lines;
+mod names;
 
 pub use lines::sheet;

@@ -1,195 +1,102 @@
 // Each kind of line, and the sheet of them all.
-ghost use Rattle.std.specs.Prelude.{◌≡◌, ℕ, ◌^◌, ◌<◌, List, [], ◌∷◌, ◌++◌, length, IfOk, codes, decimal, OnOk};
+ghost use Rattle.std.specs.Prelude.{◌≡◌, IfOk, OnOk, flat_map, string_bytes};
 ghost use Rattle.fixed.specs.Names.{spelling};
+ghost use Rattle.site.specs.Plans.{reading_on};
 ghost use Rattle.site.specs.Sites.{plan};
-ghost use Rattle.sheet.specs.Sheets.{Appended, each_from, count, counts, name_line, name_at, link_line, user_line, reading_line, link_note, node_note, sheet_of};
+ghost use Rattle.sheet.specs.Sheets.{Appended, each_from, counts, name_line, link_line, user_line, reading_line, link_note, node_note, sheet_of};
 
+use crate::names::Shown;
 use fixed::Name;
-use site::{Link, Reading, Site};
+use site::Site;
 use std::alloc::{AllocError, Global};
 
 // The sheet of a site.
 pub fn sheet(heap: Global, site: &Site) -> Result<Vec<u8>, AllocError>
     ensures { IfOk result (λ v. v.items ≡ sheet_of (plan site.now)) }
 {
-    let mut text = Vec::new(heap);
-    put_counts(heap, &mut text, site)?;
-    put_names(&mut text, b"node ", site.nodes())?;
+    let mut text = String::new(heap);
+    put_counts(&mut text, site)?;
+    put_names(&mut text, "node ", site.nodes())?;
     put_links(&mut text, site)?;
-    put_names(&mut text, b"class ", site.classes())?;
-    put_users(heap, &mut text, site)?;
-    put(&mut text, reading_line(site.reading()))?;
-    put_notes(heap, &mut text, site)?;
-    Ok(text)
+    put_names(&mut text, "class ", site.classes())?;
+    put_users(&mut text, site)?;
+    put_reading(&mut text, site)?;
+    put_notes(&mut text, site)?;
+    Ok(text.into_bytes())
 }
 
-fn put(text: &mut Vec<u8>, bytes: &[u8]) -> Result<(), AllocError>
-    ensures { OnOk result (Appended text.old.items bytes.now text.new.items) }
+// Each part takes the text and the site: a struct of both would add to each clause that the site stays.
+fn put_counts(text: &mut String, site: &Site) -> Result<(), AllocError>
+    ensures { OnOk result (Appended (string_bytes text.old) (counts (plan site.now)) (string_bytes text.new)) }
 {
-    text.extend_from_slice(bytes)?;
-    Ok(())
+    writeln!(
+        text,
+        "# {} nodes, {} links, {} classes, {} users",
+        site.node_count(),
+        site.link_count(),
+        site.class_count(),
+        site.user_count()
+    )
 }
 
-// A number and what it counts.
-fn put_count(heap: Global, text: &mut Vec<u8>, n: usize, what: &[u8]) -> Result<(), AllocError>
-    ensures { OnOk result (Appended text.old.items (count n what.now) text.new.items) }
+fn put_names(text: &mut String, word: &str, names: &[Name]) -> Result<(), AllocError>
+    ensures { OnOk result (Appended (string_bytes text.old) (flat_map (λ name. name_line word.now (spelling name)) names.now) (string_bytes text.new)) }
 {
-    let digits = n.to_string(heap)?;
-    put(text, digits.as_bytes())?;
-    put(text, what)?;
-    Ok(())
-}
-
-fn put_counts(heap: Global, text: &mut Vec<u8>, site: &Site) -> Result<(), AllocError>
-    ensures { OnOk result (Appended text.old.items (counts (plan site.now)) text.new.items) }
-{
-    put(text, b"# ")?;
-    put_count(heap, text, site.node_count(), b" nodes, ")?;
-    put_count(heap, text, site.link_count(), b" links, ")?;
-    put_count(heap, text, site.class_count(), b" classes, ")?;
-    put_count(heap, text, site.user_count(), b" users\n")?;
-    Ok(())
-}
-
-fn put_name_line(text: &mut Vec<u8>, word: &[u8], name: &[u8]) -> Result<(), AllocError>
-    ensures { OnOk result (Appended text.old.items (name_line word.now name.now) text.new.items) }
-{
-    put(text, word)?;
-    put(text, name)?;
-    put(text, b"\n")?;
-    Ok(())
-}
-
-fn put_names(text: &mut Vec<u8>, word: &[u8], names: &[Name]) -> Result<(), AllocError>
-    ensures { OnOk result (Appended text.old.items (each_from (λ _ name. name_line word.now (spelling name)) 0 names.now) text.new.items) }
-{
-    for (i, name) in names.iter().enumerate() {
-        put_name_line(text, word, name.as_bytes())?;
+    for name in names {
+        writeln!(text, "{word}{name}")?;
     }
     Ok(())
 }
 
-// The name of a node; nothing for a number that no node has.
-fn put_node(text: &mut Vec<u8>, site: &Site, node: u8) -> Result<(), AllocError>
-    ensures { OnOk result (Appended text.old.items (name_at (plan site.now) node) text.new.items) }
+#[tactic(auto, using(std::proofs::lemmas::Grind::common_steps, crate::proofs::Putting::shown_at))]
+fn put_links(text: &mut String, site: &Site) -> Result<(), AllocError>
+    ensures { OnOk result (Appended (string_bytes text.old) (flat_map (link_line (plan site.now)) (plan site.now).links) (string_bytes text.new)) }
 {
-    if let Some(name) = site.node_name(node) {
-        put(text, name.as_bytes())?;
+    for link in site.links() {
+        let a = Shown(site.node_name(link.a));
+        let b = Shown(site.node_name(link.b));
+        writeln!(text, "link {a} {b}")?;
     }
     Ok(())
 }
 
-fn put_link_line(text: &mut Vec<u8>, site: &Site, link: Link) -> Result<(), AllocError>
-    ensures { OnOk result (Appended text.old.items (link_line (plan site.now) link) text.new.items) }
+#[tactic(auto, using(std::proofs::lemmas::Grind::common_steps, crate::proofs::Putting::each_map))]
+fn put_users(text: &mut String, site: &Site) -> Result<(), AllocError>
+    ensures { OnOk result (Appended (string_bytes text.old) (each_from (user_line (plan site.now)) 0 (plan site.now).users) (string_bytes text.new)) }
 {
-    put(text, b"link ")?;
-    put_node(text, site, link.a)?;
-    put(text, b" ")?;
-    put_node(text, site, link.b)?;
-    put(text, b"\n")?;
-    Ok(())
-}
-
-fn put_links(text: &mut Vec<u8>, site: &Site) -> Result<(), AllocError>
-    ensures { OnOk result (Appended text.old.items (each_from (λ _ l. link_line (plan site.now) l) 0 (plan site.now).links) text.new.items) }
-{
-    let links = site.links();
-    for (i, link) in links.iter().enumerate() {
-        put_link_line(text, site, *link)?;
+    for user in site.users() {
+        writeln!(text, "user {} {}", user.name, user.rank)?;
     }
     Ok(())
 }
 
-fn put_user_line(
-    heap: Global,
-    text: &mut Vec<u8>,
-    site: &Site,
-    user: u8,
-    name: &[u8],
-) -> Result<(), AllocError>
-    ensures { OnOk result (Appended text.old.items (user_line (plan site.now) user name.now) text.new.items) }
+fn put_reading(text: &mut String, site: &Site) -> Result<(), AllocError>
+    ensures { OnOk result (Appended (string_bytes text.old) (reading_line (reading_on (plan site.now))) (string_bytes text.new)) }
 {
-    let rank = site.rank(user).unwrap_or(0);
-    put(text, b"user ")?;
-    put(text, name)?;
-    put(text, b" ")?;
-    put_count(heap, text, rank as usize, b"\n")?;
-    Ok(())
+    writeln!(text, "reading {}", site.reading())
 }
 
-fn put_users(heap: Global, text: &mut Vec<u8>, site: &Site) -> Result<(), AllocError>
-    ensures { OnOk result (Appended text.old.items (each_from (user_line (plan site.now)) 0 (plan site.now).users) text.new.items) }
+// The links of a node, each by its number and the name of the node at its far end.
+fn put_link_notes(text: &mut String, site: &Site, node: u8) -> Result<(), AllocError>
+    ensures { OnOk result (Appended (string_bytes text.old) (each_from (link_note (plan site.now) node) 0 (plan site.now).links) (string_bytes text.new)) }
 {
-    let names = site.users();
-    for (i, name) in names.iter().enumerate() {
-        put_user_line(heap, text, site, i as u8, name.as_bytes())?;
+    for (i, link) in site.links().iter().enumerate() {
+        if link.ends_at(node) {
+            let end = Shown(site.node_name(link.far_end(node)));
+            write!(text, " {i} ({end})")?;
+        }
     }
     Ok(())
 }
 
-fn reading_line(reading: Reading) -> &'static [u8]
-    ensures { result.now ≡ reading_line reading }
+#[tactic(auto, using(std::proofs::lemmas::Grind::common_steps, crate::proofs::Putting::each_map))]
+fn put_notes(text: &mut String, site: &Site) -> Result<(), AllocError>
+    ensures { OnOk result (Appended (string_bytes text.old) (each_from (node_note (plan site.now)) 0 (plan site.now).nodes) (string_bytes text.new)) }
 {
-    match reading {
-        Reading::Implied => b"reading implied\n",
-        Reading::Spoken => b"reading spoken\n",
-    }
-}
-
-// A link of a node, by its number and the name of the node at its far end.
-fn put_link_note(
-    heap: Global,
-    text: &mut Vec<u8>,
-    site: &Site,
-    node: u8,
-    number: usize,
-    link: Link,
-) -> Result<(), AllocError>
-    ensures { OnOk result (Appended text.old.items (link_note (plan site.now) node number link) text.new.items) }
-{
-    if !link.ends_at(node) {
-        return Ok(());
-    }
-    put(text, b" ")?;
-    put_count(heap, text, number, b" (")?;
-    put_node(text, site, link.far_end(node))?;
-    put(text, b")")?;
-    Ok(())
-}
-
-fn put_link_notes(heap: Global, text: &mut Vec<u8>, site: &Site, node: u8) -> Result<(), AllocError>
-    ensures { OnOk result (Appended text.old.items (each_from (link_note (plan site.now) node) 0 (plan site.now).links) text.new.items) }
-{
-    let links = site.links();
-    for (i, link) in links.iter().enumerate() {
-        put_link_note(heap, text, site, node, i, *link)?;
-    }
-    Ok(())
-}
-
-fn put_note(
-    heap: Global,
-    text: &mut Vec<u8>,
-    site: &Site,
-    node: u8,
-    name: &[u8],
-) -> Result<(), AllocError>
-    ensures { OnOk result (Appended text.old.items (node_note (plan site.now) node name.now) text.new.items) }
-{
-    put(text, b"# links of ")?;
-    put(text, name)?;
-    put(text, b":")?;
-    put_link_notes(heap, text, site, node)?;
-    put(text, b"\n")?;
-    Ok(())
-}
-
-fn put_notes(heap: Global, text: &mut Vec<u8>, site: &Site) -> Result<(), AllocError>
-    ensures { OnOk result (Appended text.old.items (each_from (node_note (plan site.now)) 0 (plan site.now).nodes) text.new.items) }
-{
-    let names = site.nodes();
-    for (i, name) in names.iter().enumerate() {
-        put_note(heap, text, site, i as u8, name.as_bytes())?;
+    for (i, name) in site.nodes().iter().enumerate() {
+        write!(text, "# links of {name}:")?;
+        put_link_notes(text, site, i as u8)?;
+        text.push_str("\n")?;
     }
     Ok(())
 }

@@ -1,26 +1,14 @@
-use Rattle.std.proofs.Common.{length, vec_items, sym, ap, ◌∙◌, arith}
-use Rattle.std.proofs.lemmas.List.{length-map}
-use Rattle.fixed.specs.Items.{items}
+use Rattle.std.proofs.Common.{◌++◌, codes, string_bytes, ap, ◌∙◌, append_assoc}
 use Rattle.fixed.specs.Names.{spelling}
-use Rattle.fixed.proofs.Held.{items_within}
 use Rattle.site.specs.Sites.{plan}
-use Rattle.sheet.specs.Sheets.{each_from, node_note}
-use Rattle.sheet.proofs.Putting.{named, written_more, written_all, each_map}
+use Rattle.sheet.specs.Sheets.{Appended, node_note}
+use Rattle.sheet.proofs.Putting.{each_more, then, named}
 use Rattle.sheet.proofs.lines.put_notes.Goals as goal
-
-pub overflow_cast-i : goal.overflow_cast-i
-overflow_cast-i c =
-    let few = items_within c.args.site.now.draft.nodes.list in
-    let long = length-map (items c.args.site.now.draft.nodes.list) spelling in
-    let same = sym (length-map c.nodes-names.result.now spelling) ∙ ap length c.nodes-names.ensures in
-    omega arith
 
 pub loop-i-preserved : goal.loop-i-preserved
 loop-i-preserved c =
-    written_more (λ k name. node_note (plan c.args.site.now) k (spelling name)) c.nodes-names.result.now (vec_items c.args.text.now) c.loop-i.i (vec_items c.loop-i.text) c.loop-i.invariant c.index-names-i.result _ c.loop-i-test.true
-    (named _ (ap (node_note (plan c.args.site.now) c.loop-i.i) (c.as_bytes.ensures ∙ ap spelling c.index-names-i.is)) c.in_ok-put_note.ensures)
-
-pub returns : goal.returns
-returns c =
-    named _ (each_map spelling (node_note (plan c.args.site.now)) 0 c.nodes-names.result.now ∙ ap (each_from (node_note (plan c.args.site.now)) 0) c.nodes-names.ensures)
-    (written_all (λ k name. node_note (plan c.args.site.now) k (spelling name)) c.nodes-names.result.now (vec_items c.args.text.now) c.loop-i.i (vec_items c.loop-i.text) c.loop-i.invariant c.loop-i-test.false)
+    let head : Appended (string_bytes c.loop-i.text) (codes "# links of " ++ (spelling c.name-item.result ++ codes ":")) (string_bytes c.write.new.self) = record { is = c.in_ok-write.ensures.bytes } in
+    let end : Appended (string_bytes c.put_link_notes.new.text) (codes "\n") (string_bytes c.push_str.new.self) = record { is = c.in_ok-push_str.ensures.bytes } in
+    each_more _ (λ k name. node_note (plan c.args.site.now) k (spelling name)) c.nodes-name-items.result.now c.loop-i.i c.name-item.result c.loop-i.invariant c.loop-i-test.true
+    (named _ (ap (λ l. codes "# links of " ++ l) (append_assoc (spelling c.name-item.result) (codes ":") _) ∙ ap (λ name. node_note (plan c.args.site.now) c.loop-i.i (spelling name)) c.name-item.is)
+    (then head (then c.in_ok-put_link_notes.ensures end)))

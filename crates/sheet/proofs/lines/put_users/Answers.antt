@@ -1,26 +1,17 @@
-use Rattle.std.proofs.Common.{length, vec_items, sym, ap, ◌∙◌, arith}
-use Rattle.std.proofs.lemmas.List.{length-map}
-use Rattle.fixed.specs.Items.{items}
-use Rattle.fixed.specs.Names.{spelling}
-use Rattle.fixed.proofs.Held.{items_within}
+use Rattle.std.proofs.Common.{ℕ, List, ◌++◌, codes, get_or, string_bytes, sym, ap, ◌∙◌}
+use Rattle.std.proofs.lemmas.List.{get_or-map}
 use Rattle.site.specs.Sites.{plan}
-use Rattle.sheet.specs.Sheets.{each_from, user_line}
-use Rattle.sheet.proofs.Putting.{named, written_more, written_all, each_map}
+use Rattle.site.specs.Users.{called, rank}
+use Rattle.sheet.specs.Sheets.{Appended, count, user_line}
+use Rattle.sheet.proofs.Putting.{each_more, named}
 use Rattle.sheet.proofs.lines.put_users.Goals as goal
 
-pub overflow_cast-i : goal.overflow_cast-i
-overflow_cast-i c =
-    let few = items_within c.args.site.now.draft.users.roster.list in
-    let long = length-map (items c.args.site.now.draft.users.roster.list) spelling in
-    let same = sym (length-map c.users-names.result.now spelling) ∙ ap length c.users-names.ensures in
-    omega arith
-
-pub loop-i-preserved : goal.loop-i-preserved
-loop-i-preserved c =
-    written_more (λ k name. user_line (plan c.args.site.now) k (spelling name)) c.users-names.result.now (vec_items c.args.text.now) c.loop-i.i (vec_items c.loop-i.text) c.loop-i.invariant c.index-names-i.result _ c.loop-i-test.true
-    (named _ (ap (user_line (plan c.args.site.now) c.loop-i.i) (c.as_bytes.ensures ∙ ap spelling c.index-names-i.is)) c.in_ok-put_user_line.ensures)
-
-pub returns : goal.returns
-returns c =
-    named _ (each_map spelling (user_line (plan c.args.site.now)) 0 c.users-names.result.now ∙ ap (each_from (user_line (plan c.args.site.now)) 0) c.users-names.ensures)
-    (written_all (λ k name. user_line (plan c.args.site.now) k (spelling name)) c.users-names.result.now (vec_items c.args.text.now) c.loop-i.i (vec_items c.loop-i.text) c.loop-i.invariant c.loop-i-test.false)
+pub loop-user-preserved : goal.loop-user-preserved
+loop-user-preserved c =
+    let users = c.users-user-items.result.now in
+    let i = c.loop-user.user-index in
+    let user = c.user-item.result in
+    let line : Appended (string_bytes c.loop-user.text) (codes "user " ++ (called user ++ (codes " " ++ count user.rank (codes "\n")))) (string_bytes c.writeln.new.self) = record { is = c.in_ok-writeln.ensures.bytes } in
+    each_more _ (λ k u. user_line (plan c.args.site.now) k (called u)) users i user c.loop-user.invariant c.loop-user-test.true
+    (named _ (ap (λ u. codes "user " ++ (called u ++ (codes " " ++ count (rank u) (codes "\n")))) c.user-item.is
+    ∙ ap (λ n. codes "user " ++ (called (get_or users i user) ++ (codes " " ++ count n (codes "\n")))) (sym (get_or-map rank users i user 0 c.loop-user-test.true) ∙ ap (λ (rs : List ℕ). get_or rs i 0) c.users-user-items.ensures.ranks)) line)

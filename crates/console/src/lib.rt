@@ -1,0 +1,8 @@
+// What the desk programs read, and what they write in place of an answer.
+#![tactic(auto)]
+
+mod answers;
+mod reading;
+
+pub use answers::{NoAnswer, write_answer};
+pub use reading::read_whole;

@@ -1,5 +1,0 @@
-use Rattle.sheet.proofs.Putting.{then}
-use Rattle.sheet.proofs.lines.put_name_line.Goals as goal
-
-pub returns : goal.returns
-returns c = then c.in_ok-put.ensures (then c.in_ok-put-2.ensures c.in_ok-put-3.ensures)
