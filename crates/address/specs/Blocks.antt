@@ -1,13 +1,13 @@
 -- Blocks of addresses: the addresses that a pattern of four parts stands for, and how a pattern is written.
-use Rattle.std.specs.Prelude.{◌≡◌, ℕ, zero, suc, ◌+◌, ◌≤◌, Bool, true, false, cond, not, ◌&&◌, List, ◌∷◌, ◌++◌, length, take, drop, replicate, Some, None, codes, Option, ◌==◌, nat_le, nat_lt, slice_index, slice_index_or, slice_set}
-use Rattle.std.specs.List.{prefix_len, list_any}
+use Rattle.std.specs.Prelude.{◌≡◌, ℕ, zero, suc, ◌+◌, ◌≤◌, Bool, true, false, cond, not, ◌&&◌, List, ◌∷◌, ◌++◌, length, take, drop, replicate, Some, None, codes, Option, ◌==◌, nat_le, nat_lt, slice_index, slice_set}
+use Rattle.std.specs.List.{prefix_len, slice_get}
 use Rattle.std.specs.Str.{bytes_eq}
 use Rattle.address.specs.declared.block.Block.{Block}
 use Rattle.kind.specs.Digits.{number, Writes}
 
--- the part of a block at a place: a number, or none where a star stands
+-- the part of a block at a place: a number at the first ones, as many as its depth, and none where a star stands
 abbrev pub part_at : Block → ℕ → Option ℕ
-part_at b i = slice_index_or b.parts i None
+part_at b i = cond (nat_lt i b.depth) (slice_get b.parts i) None
 
 -- a star fits each number, and a number itself alone
 abbrev pub fits : Option ℕ → ℕ → Bool
@@ -33,16 +33,18 @@ names b i v = is_number (part_at b i) v
 
 -- the block of all addresses
 abbrev pub everything : Block
-everything = record { parts = replicate 4 None }
+everything = record { depth = 0; parts = replicate 4 0 }
 
 -- a text writes a part of a block: a number up to 255 in one to three digits where the block is numbered, else a star
 abbrev pub WritesPart : Option ℕ → List ℕ → Type 0
 WritesPart None t = t ≡ codes "*"
 WritesPart (Some n) t = Writes t n × (length t ≤ 3) × (n ≤ 255)
 
--- a block has four parts, and only stars follow a star
+-- a block has four parts, and 0 in place of each star; only stars follow a star
 pub record Tidy (b : Block) : Type 0 where
   pub four : length b.parts ≡ 4
+  pub deep : b.depth ≤ 4
+  pub blank : (i : ℕ) → b.depth ≤ i → slice_index b.parts i ≡ 0
   pub stars_last : (i : ℕ) → part_at b i ≡ None → part_at b (i + 1) ≡ None
 
 -- a value writes a block: four parts joined by dots
@@ -72,14 +74,9 @@ byte_from (Some n) = cond (nat_le n 255) (Some n) None
 abbrev pub byte_of : List ℕ → Option ℕ
 byte_of t = cond (nat_lt 3 (length t)) None (byte_from (number t))
 
--- a part is a star
-abbrev pub starred : Option ℕ → Bool
-starred None = true
-starred (Some n) = false
-
--- a block with a number at a place: only stars follow a star
+-- a block with a number at a place where its first star stands: only stars follow a star
 abbrev pub with_number : Block → ℕ → ℕ → Option Block
-with_number b i n = cond (list_any starred (take i b.parts)) None (Some (record { parts = slice_set b.parts i (Some n) }))
+with_number b i n = cond (b.depth == i) (Some (record { depth = i + 1; parts = slice_set b.parts i n })) None
 
 -- a block with the part that a text writes at a place: a star, as stands there so far, or a number
 abbrev pub with_text : Block → ℕ → List ℕ → Option Block

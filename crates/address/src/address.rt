@@ -15,7 +15,7 @@ use kind::{Claim, Declined, Kind, Printable, Sign, put, within};
 // With their count beside them: a kind's laws are of whole values, and of a `Table` only the items are known.
 #[derive(Clone, Copy)]
 pub struct Address {
-    count: u8,
+    count: usize,
     slots: [Entry; 8],
 }
 
@@ -25,7 +25,7 @@ impl Address {
         ensures taken { result.now ≡ entries self.now }
         ensures few { length result.now ≤ 8 }
     {
-        &self.slots[..usize::from(self.count.min(8))]
+        &self.slots[..self.count.min(8)]
     }
 
     // Takes one more comparison on, if it is not the ninth.
@@ -36,7 +36,7 @@ impl Address {
         if self.count >= 8 {
             return Err(Declined::BadValue);
         }
-        self.slots[usize::from(self.count)] = entry;
+        self.slots[self.count] = entry;
         self.count += 1;
         Ok(Claim::Taken)
     }

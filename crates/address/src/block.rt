@@ -1,25 +1,31 @@
 // Blocks of addresses: patterns of four parts, of which only stars follow a star.
-ghost use Rattle.std.specs.Prelude.{◌≡◌, ◌<◌, take, Some, None, MatchOption};
-ghost use Rattle.std.specs.List.{list_any};
-ghost use Rattle.address.specs.Blocks.{part_at, at_part, covers, starred, byte_of, with_number, with_text, cut, block_of};
+ghost use Rattle.std.specs.Prelude.{◌≡◌, ◌<◌, Some, None, MatchOption};
+ghost use Rattle.address.specs.Blocks.{part_at, at_part, covers, byte_of, with_number, with_text, cut, block_of};
 
 use kind::number_of;
 
-// The addresses that have the given numbers; where a pattern has a star, there is none.
+// The addresses whose first parts, as many as the depth, are the given numbers. Five bytes: four `Option<u8>` would be eight.
 #[derive(Clone, Copy)]
 pub struct Block {
-    pub parts: [Option<u8>; 4],
+    pub depth: u8,
+    pub parts: [u8; 4],
 }
 
 impl Block {
     // All addresses.
-    pub(crate) const ANY: Block = Block { parts: [None; 4] };
+    pub(crate) const ANY: Block = Block {
+        depth: 0,
+        parts: [0; 4],
+    };
 
     // The number at a part, if no star stands there.
     pub(crate) fn number(&self, part: usize) -> Option<u8>
         ensures { result ≡ part_at self.now part }
     {
-        self.parts.get(part).copied().flatten()
+        self.parts
+            .get(part)
+            .copied()
+            .filter(|_| part < usize::from(self.depth))
     }
 
     fn at_part(&self, p: &[u8; 4], part: usize) -> bool
@@ -36,22 +42,16 @@ impl Block {
         (0..4).all(|part| self.at_part(p, part))
     }
 
-    // Whether a star stands before a place.
-    fn star_before(&self, place: usize) -> bool
-        ensures { result ≡ list_any starred (take place self.now.parts) }
-    {
-        self.parts.iter().take(place).any(|part| part.is_none())
-    }
-
-    // The block with a number at a place, unless a star stands before it.
+    // The block with a number at a place, if the first star stands there.
     fn with_number(mut self, place: usize, n: u8) -> Option<Block>
         requires { place < 4 }
         ensures { result ≡ with_number self place n }
     {
-        if self.star_before(place) {
+        if usize::from(self.depth) != place {
             return None;
         }
-        self.parts[place] = Some(n);
+        self.depth += 1;
+        self.parts[place] = n;
         Some(self)
     }
 

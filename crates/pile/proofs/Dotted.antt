@@ -1,13 +1,14 @@
 -- A block is read from a value exactly when the value writes it.
-use Rattle.std.proofs.Common.{◌≡◌, ℕ, zero, suc, ◌+◌, ◌-◌, ◌<◌, ◌≤◌, Bool, true, false, cond, ltb, leb, List, [], ◌∷◌, ◌++◌, length, get_or, take, drop, set, Some, None, codes, Option, sym, refl, ap, ◌∙◌, subst, ⊎_elim, append_assoc, arith, length-append, length-set}
-use Rattle.std.specs.List.{prefix_len, list_any}
+use Rattle.std.proofs.Common.{◌≡◌, ℕ, zero, suc, ◌+◌, ◌<◌, ◌≤◌, min, Bool, true, false, cond, eqb, ltb, leb, List, [], ◌∷◌, ◌++◌, length, get_or, take, drop, set, Some, None, codes, Option, sym, refl, ap, ◌∙◌, subst, ⊎_elim, append_assoc, arith, length-append, length-set}
+use Rattle.std.specs.List.{prefix_len}
 use Rattle.std.specs.Str.{bytes_eq}
 use Rattle.std.proofs.lemmas.Slice.Eq.{bytes_eq-Decides}
-use Rattle.std.proofs.lemmas.List.{take_at, drop_at, drop_more, take-append-drop, get_or-set_same, get_or-set_other, get_or-take, length-take-le, same_lists, get_or_default}
-use Rattle.std.proofs.lemmas.Bool.{cases_Bool, cases_eq, cond-true, cond-false, ltb-true, ltb-false, leb-true, lt-ltb, le-ltb, le-leb, eqb-true, not-false, or_parts, both_ways}
+use Rattle.std.proofs.lemmas.List.{take_at, drop_at, drop_more, take-append-drop, get_or-set_same, get_or-set_other, same_lists, get_or_default}
+use Rattle.std.proofs.lemmas.Option.{slice_get-get_or}
+use Rattle.std.proofs.lemmas.Bool.{cases_Bool, cases_lt, cases_eq, cond-true, cond-false, ltb-true, ltb-false, leb-true, lt-ltb, le-ltb, le-leb, eqb-true, eq-eqb, not-false}
 use Rattle.std.proofs.lemmas.Bool.Decides.{nat_tests}
 use Rattle.address.specs.declared.block.Block.{Block}
-use Rattle.address.specs.Blocks.{no_dot, cut, onward, part_at, starred, byte_from, byte_of, with_number, with_text, block_from, block_of, everything, WritesPart, Tidy, WritesBlock}
+use Rattle.address.specs.Blocks.{no_dot, cut, onward, part_at, byte_from, byte_of, with_number, with_text, block_from, block_of, everything, WritesPart, Tidy, WritesBlock}
 use Rattle.kind.specs.Digits.{digit, number, Writes}
 use Rattle.pile.specs.Pile.{Exactly}
 use Rattle.pile.proofs.Spelled.{first_passes, writes_from, number_from}
@@ -120,22 +121,26 @@ of_number t m e =
     (writes_from t m b.0, ltb-false 3 (length t) short, b.1))
     (cases_Bool (ltb 3 (length t)))
 
--- a list in which no star stands
-no_star : (xs : List (Option ℕ)) (k : ℕ) → list_any starred xs ≡ false → k < length xs → get_or xs k None ≡ None → ⊥
-no_star [] k h in' e = absurd (omega arith)
-no_star (x ∷ xs) zero h in' e = both_ways _ (or_parts (starred x) (list_any starred xs) h).0 (ap starred e)
-no_star (x ∷ xs) (suc k) h in' e = no_star xs k (or_parts (starred x) (list_any starred xs) h).1 (omega arith) e
+-- the number at a part before the depth, and the star at one past it
+pub part_in : (b : Block) (i : ℕ) → i < b.depth → i < length b.parts → part_at b i ≡ Some (get_or b.parts i 0)
+part_in b i h k = cond-true _ _ _ (lt-ltb i b.depth h) ∙ slice_get-get_or b.parts i 0 k
 
-all_numbers : (xs : List (Option ℕ)) → ((k : ℕ) → k < length xs → get_or xs k None ≡ None → ⊥) → list_any starred xs ≡ false
-all_numbers [] h = refl
-all_numbers (None ∷ xs) h = absurd (h 0 (omega arith) refl)
-all_numbers (Some n ∷ xs) h = all_numbers xs (λ k lt. h (suc k) (omega arith))
+pub part_out : (b : Block) (i : ℕ) → b.depth ≤ i → part_at b i ≡ None
+part_out b i h = cond-false _ _ _ (le-ltb i b.depth h)
 
--- a block while it is read: from a place on it has stars, and only stars follow a star
+-- so only stars follow a star
+pub last_stars : (b : Block) → length b.parts ≡ 4 → b.depth ≤ 4 → (i : ℕ) → part_at b i ≡ None → part_at b (i + 1) ≡ None
+last_stars b four deep i e =
+    ⊎_elim
+    (λ in'. absurd (no_value _ (sym e ∙ part_in b i in' (omega (arith, four, deep)))))
+    (λ out. part_out b (i + 1) (omega arith))
+    (cases_lt i b.depth)
+
+-- a block while it is read: its parts before a place are known
 record Building (i : ℕ) (c : Block) : Type 0 where
   four : length c.parts ≡ 4
-  later : (k : ℕ) → i ≤ k → part_at c k ≡ None
-  stars_last : (k : ℕ) → part_at c k ≡ None → part_at c (k + 1) ≡ None
+  deep : c.depth ≤ i
+  blank : (k : ℕ) → c.depth ≤ k → get_or c.parts k 0 ≡ 0
 
 -- a step keeps what was read and adds a part
 record Adds (i : ℕ) (t : List ℕ) (c d : Block) : Type 0 where
@@ -145,35 +150,28 @@ record Adds (i : ℕ) (t : List ℕ) (c d : Block) : Type 0 where
 
 adds_star : (i : ℕ) (c : Block) → Building i c → Adds i (codes "*") c c
 adds_star i c b = record {
-  builds = record { four = b.four; later = λ k l. b.later k (omega arith); stars_last = b.stars_last };
-  writes = subst (λ o. WritesPart o (codes "*")) (sym (b.later i (omega arith))) refl;
+  builds = record { four = b.four; deep = omega (arith, b.deep); blank = b.blank };
+  writes = subst (λ o. WritesPart o (codes "*")) (sym (part_out c i b.deep)) refl;
   keeps = λ k l. refl;
 }
 
-adds_number : (i n : ℕ) (t : List ℕ) (c : Block) → i < 4 → Building i c → list_any starred (take i c.parts) ≡ false → WritesPart (Some n) t → Adds i t c (record { parts = set c.parts i (Some n) })
-adds_number i n t c h b free w =
-    let d : Block = record { parts = set c.parts i (Some n) } in
-    let here : part_at d i ≡ Some n = get_or-set_same c.parts i (Some n) None (omega (arith, b.four)) in
-    let there : (k : ℕ) → (k ≡ i → ⊥) → part_at d k ≡ part_at c k = λ k ne. get_or-set_other c.parts i k (Some n) None ne in
-    let numbers : (k : ℕ) → k < i → part_at c k ≡ None → ⊥ =
-    λ k l e. no_star (take i c.parts) k free (omega (arith, length-take-le i c.parts (omega (arith, b.four)))) (get_or-take i c.parts k None l ∙ e) in
+adds_number : (i n : ℕ) (t : List ℕ) (c : Block) → i < 4 → Building i c → c.depth ≡ i → WritesPart (Some n) t → Adds i t c (record { depth = i + 1; parts = set c.parts i n })
+adds_number i n t c h b e w =
+    let d : Block = record { depth = i + 1; parts = set c.parts i n } in
+    let long : length d.parts ≡ 4 = length-set c.parts i n ∙ b.four in
+    let here : get_or d.parts i 0 ≡ n = get_or-set_same c.parts i n 0 (omega (arith, b.four)) in
+    let there : (k : ℕ) → (k ≡ i → ⊥) → get_or d.parts k 0 ≡ get_or c.parts k 0 = λ k ne. get_or-set_other c.parts i k n 0 ne in
     record {
       builds = record {
-        four = length-set c.parts i (Some n) ∙ b.four;
-        later = λ k l. there k (λ s. omega arith) ∙ b.later k (omega arith);
-        stars_last = λ k e.
-            ⊎_elim
-            (λ same. absurd (no_value n (sym (subst (λ j. part_at d j ≡ None) same e) ∙ here)))
-            (λ other.
-            let was : part_at c k ≡ None = sym (there k other) ∙ e in
-            ⊎_elim
-            (λ next. absurd (numbers k (omega arith) was))
-            (λ far. there (k + 1) far ∙ b.stars_last k was)
-            (cases_eq (k + 1) i))
-            (cases_eq k i);
+        four = long;
+        deep = omega arith;
+        blank = λ k l. there k (λ s. omega arith) ∙ b.blank k (omega arith);
       };
-      writes = subst (λ o. WritesPart o t) (sym here) w;
-      keeps = λ k l. there k (λ s. omega arith);
+      writes = subst (λ o. WritesPart o t) (sym (part_in d i (omega arith) (omega (arith, long)) ∙ ap Some here)) w;
+      keeps = λ k l.
+          part_in d k (omega arith) (omega (arith, long))
+          ∙ ap Some (there k (λ s. omega arith))
+          ∙ sym (part_in c k (omega arith) (omega (arith, b.four)));
     }
 
 adds : (i : ℕ) (t : List ℕ) (c d : Block) → i < 4 → Building i c → with_text c i t ≡ Some d → Adds i t c d
@@ -186,11 +184,11 @@ adds i t c d h b e =
     (λ other.
     let o = of_onward (byte_of t) (with_number c i) d (sym (cond-false _ _ _ other) ∙ e) in
     ⊎_elim
-    (λ late. absurd (no_value d (sym (cond-true _ _ _ late) ∙ o.2)))
-    (λ free.
-    let same = taken_out _ d (sym (cond-false _ _ _ free) ∙ o.2) in
-    subst (λ x. Adds i t c x) same (adds_number i o.0 t c h b free (of_number t o.0 o.1)))
-    (cases_Bool (list_any starred (take i c.parts))))
+    (λ next.
+    let same = taken_out _ d (sym (cond-true _ _ _ next) ∙ o.2) in
+    subst (λ x. Adds i t c x) same (adds_number i o.0 t c h b (eqb-true _ _ next) (of_number t o.0 o.1)))
+    (λ late. absurd (no_value d (sym (cond-false _ _ _ late) ∙ o.2)))
+    (cases_Bool (eqb c.depth i)))
     (cases_Bool (bytes_eq t (codes "*")))
 
 -- one part and the rest
@@ -200,15 +198,15 @@ of_block n i c d v e =
     let p = of_onward (with_text c i o.0.0) _ d o.2 in
     (o.0.0, o.0.1, p.0, of_cut v o.0.0 o.0.1 o.1, p.1, p.2)
 
-stars : (k : ℕ) → part_at everything k ≡ None
-stars zero = refl
-stars (suc zero) = refl
-stars (suc (suc zero)) = refl
-stars (suc (suc (suc zero))) = refl
-stars (suc (suc (suc (suc k)))) = refl
-
 start : Building 0 everything
-start = record { four = refl; later = λ k _. stars k; stars_last = λ k _. stars (k + 1) }
+start = record { four = refl; deep = omega arith; blank = λ k _. zeros k }
+  where
+    zeros : (k : ℕ) → get_or everything.parts k 0 ≡ 0
+    zeros zero = refl
+    zeros (suc zero) = refl
+    zeros (suc (suc zero)) = refl
+    zeros (suc (suc (suc zero))) = refl
+    zeros (suc (suc (suc (suc k)))) = refl
 
 block_to : (v : List ℕ) (b : Block) → block_of v ≡ Some b → WritesBlock v b
 block_to v b e =
@@ -229,73 +227,73 @@ block_to v b e =
       part_1 = subst (λ o. WritesPart o q.0) (sym (a3.keeps 1 (omega arith) ∙ a2.keeps 1 (omega arith))) a1.writes;
       part_2 = subst (λ o. WritesPart o r.0) (sym (a3.keeps 2 (omega arith))) a2.writes;
       part_3 = a3.writes;
-      tidy = record { four = a3.builds.four; stars_last = a3.builds.stars_last };
+      tidy = record {
+        four = a3.builds.four;
+        deep = a3.builds.deep;
+        blank = a3.builds.blank;
+        stars_last = last_stars b a3.builds.four a3.builds.deep;
+      };
     }
 
 -- a block up to a place of another
 record Front (b : Block) (i : ℕ) (c : Block) : Type 0 where
+  deep : c.depth ≡ min i b.depth
   four : length c.parts ≡ 4
-  each : (k : ℕ) → part_at c k ≡ cond (ltb k i) (part_at b k) None
+  each : (k : ℕ) → get_or c.parts k 0 ≡ cond (ltb k c.depth) (get_or b.parts k 0) 0
 
-stars_on : (b : Block) → Tidy b → (n k j : ℕ) → k + n ≡ j → part_at b k ≡ None → part_at b j ≡ None
-stars_on b t zero k j at e = let same : k ≡ j = omega arith in subst (λ x. part_at b x ≡ None) same e
-stars_on b t (suc n) k j at e = stars_on b t n (k + 1) j (omega arith) (t.stars_last k e)
-
-tests : (k i : ℕ) → (k ≡ i → ⊥) → ltb k i ≡ ltb k (i + 1)
-tests k i ne = grind (arith, nat_tests)
-
-grows : (b : Block) (i : ℕ) (t : List ℕ) (c : Block) → Tidy b → i < 4 → Front b i c → (o : Option ℕ) → part_at b i ≡ o → WritesPart o t → (d : Block) × (with_text c i t ≡ Some d) × (Front b (i + 1) d)
-grows b i t c y h f None is w = (
-  c,
-  subst (λ x. with_text c i x ≡ Some c) (sym w) refl,
-  record {
-    four = f.four;
-    each = λ k. f.each k ∙
-        ⊎_elim
-        (λ same. cond-false (ltb k i) (part_at b k) None (le-ltb k i (omega arith)) ∙ sym (cond-true (ltb k (i + 1)) (part_at b k) None (lt-ltb k (i + 1) (omega arith)) ∙ ap (part_at b) same ∙ is))
-        (λ other. ap (λ x. cond x (part_at b k) None) (tests k i other))
-        (cases_eq k i);
-  },
-)
-grows b i t c y h f (Some n) is w =
-    let d : Block = record { parts = set c.parts i (Some n) } in
-    let long = length-take-le i c.parts (omega (arith, f.four)) in
-    let numbers : (k : ℕ) → k < length (take i c.parts) → get_or (take i c.parts) k None ≡ None → ⊥ =
-    λ k l e.
-    let in' : k < i = omega arith in
-    let was : part_at b k ≡ None = sym (cond-true (ltb k i) (part_at b k) None (lt-ltb k i in')) ∙ sym (f.each k) ∙ sym (get_or-take i c.parts k None in') ∙ e in
-    no_value n (sym (stars_on b y (i - k) k i (omega arith) was) ∙ is) in (
+grows : (b : Block) (i : ℕ) (t : List ℕ) (c : Block) → Tidy b → i < 4 → Front b i c → WritesPart (part_at b i) t → (d : Block) × (with_text c i t ≡ Some d) × (Front b (i + 1) d)
+grows b i t c y h f w =
+    ⊎_elim
+    (λ in'.
+    let n : ℕ = get_or b.parts i 0 in
+    let num : WritesPart (Some n) t = subst (λ o. WritesPart o t) (part_in b i in' (omega (arith, y.four))) w in
+    let d : Block = record { depth = i + 1; parts = set c.parts i n } in
+    let at : c.depth ≡ i = f.deep ∙ omega arith in (
       d,
-      cond-false _ _ _ (not_star t n w.0) ∙ ap (λ o. onward o (with_number c i)) (number_part t n w.0 w.1 w.2) ∙ cond-false _ _ _ (all_numbers (take i c.parts) numbers),
+      cond-false _ _ _ (not_star t n num.0) ∙ ap (λ o. onward o (with_number c i)) (number_part t n num.0 num.1 num.2) ∙ cond-true _ _ _ (eq-eqb c.depth i at),
       record {
-        four = length-set c.parts i (Some n) ∙ f.four;
+        deep = omega arith;
+        four = length-set c.parts i n ∙ f.four;
         each = λ k.
             ⊎_elim
-            (λ same. ap (part_at d) same ∙ get_or-set_same c.parts i (Some n) None (omega (arith, f.four)) ∙ sym (cond-true (ltb k (i + 1)) (part_at b k) None (lt-ltb k (i + 1) (omega arith)) ∙ ap (part_at b) same ∙ is))
-            (λ other. get_or-set_other c.parts i k (Some n) None other ∙ f.each k ∙ ap (λ x. cond x (part_at b k) None) (tests k i other))
+            (λ same. ap (λ x. get_or (set c.parts i n) x 0) same ∙ get_or-set_same c.parts i n 0 (omega (arith, f.four)) ∙ ap (λ x. get_or b.parts x 0) (sym same) ∙ sym (cond-true _ _ _ (lt-ltb k (i + 1) (omega arith))))
+            (λ other. get_or-set_other c.parts i k n 0 other ∙ f.each k ∙ ap (λ x. cond x (get_or b.parts k 0) 0) (tests k other at))
             (cases_eq k i);
       },
-    )
+    ))
+    (λ out.
+    let star : WritesPart None t = subst (λ o. WritesPart o t) (part_out b i out) w in (
+      c,
+      subst (λ x. with_text c i x ≡ Some c) (sym star) refl,
+      record { deep = f.deep ∙ omega arith; four = f.four; each = f.each },
+    ))
+    (cases_lt i b.depth)
+  where
+    tests : (k : ℕ) → (k ≡ i → ⊥) → c.depth ≡ i → ltb k c.depth ≡ ltb k (i + 1)
+    tests k ne e = grind (arith, nat_tests)
 
 whole : (b c : Block) → Tidy b → Front b 4 c → c ≡ b
 whole b c t f =
+    let deep : c.depth ≡ b.depth = f.deep ∙ omega (arith, t.deep) in
     let parts : c.parts ≡ b.parts = same_lists c.parts b.parts (f.four ∙ sym t.four)
-    (λ k d h. get_or_default c.parts k d None h ∙ f.each k ∙ cond-true (ltb k 4) (part_at b k) None (lt-ltb k 4 (omega (arith, f.four))) ∙ get_or_default b.parts k None d (omega (arith, f.four, t.four))) in
-    ap (λ p. record { parts = p }) parts
+    (λ k d h. get_or_default c.parts k d 0 h ∙ f.each k
+    ∙ ⊎_elim (λ in'. cond-true _ _ _ (lt-ltb k c.depth in')) (λ out. cond-false _ _ _ (le-ltb k c.depth out) ∙ sym (t.blank k (omega arith))) (cases_lt k c.depth)
+    ∙ get_or_default b.parts k 0 d (omega (arith, f.four, t.four))) in
+    ap (λ n. record { depth = n; parts = c.parts }) deep ∙ ap (λ p. record { depth = b.depth; parts = p }) parts
 
 goes_on : (n i : ℕ) (c d : Block) (s r : List ℕ) → prefix_len no_dot s ≡ length s → with_text c i s ≡ Some d → block_from (suc n) i c (s ++ (46 ∷ r)) ≡ block_from n (i + 1) d r
 goes_on n i c d s r e f =
     ap (λ o. onward o (λ x. onward (with_text c i x.0) (λ y. block_from n (i + 1) y x.1))) (cut_dot s r e) ∙ ap (λ o. onward o (λ y. block_from n (i + 1) y r)) f
 
 begins : (b : Block) → Front b 0 everything
-begins b = record { four = refl; each = λ k. stars k ∙ sym (cond-false (ltb k 0) (part_at b k) None (le-ltb k 0 (omega arith))) }
+begins b = record { deep = omega arith; four = refl; each = λ k. start.blank k (omega arith) ∙ sym (cond-false _ _ _ (le-ltb k 0 (omega arith))) }
 
 block_back : (v : List ℕ) (b : Block) → WritesBlock v b → block_of v ≡ Some b
 block_back v b w =
-    let g0 = grows b 0 w.first everything w.tidy (omega arith) (begins b) _ refl w.part_0 in
-    let g1 = grows b 1 w.second g0.0 w.tidy (omega arith) g0.2 _ refl w.part_1 in
-    let g2 = grows b 2 w.third g1.0 w.tidy (omega arith) g1.2 _ refl w.part_2 in
-    let g3 = grows b 3 w.fourth g2.0 w.tidy (omega arith) g2.2 _ refl w.part_3 in
+    let g0 = grows b 0 w.first everything w.tidy (omega arith) (begins b) w.part_0 in
+    let g1 = grows b 1 w.second g0.0 w.tidy (omega arith) g0.2 w.part_1 in
+    let g2 = grows b 2 w.third g1.0 w.tidy (omega arith) g1.2 w.part_2 in
+    let g3 = grows b 3 w.fourth g2.0 w.tidy (omega arith) g2.2 w.part_3 in
     ap block_of w.dotted
     ∙ goes_on 2 0 everything g0.0 w.first _ (part_no_dot _ _ w.part_0) g0.1
     ∙ goes_on 1 1 g0.0 g1.0 w.second _ (part_no_dot _ _ w.part_1) g1.1

@@ -1,16 +1,14 @@
 -- What is written for a point can be read as that point.
-use Rattle.std.proofs.Common.{◌≡◌, ℕ, ◌+◌, ◌*◌, ◌/◌, ◌%◌, ◌<◌, ◌≤◌, true, cond, leb, List, [], ◌∷◌, ◌++◌, map, length, get_or, Some, None, sym, refl, ap, ◌∙◌, subst, ⊎_elim, arith}
+use Rattle.std.proofs.Common.{◌≡◌, ℕ, ◌+◌, ◌*◌, ◌/◌, ◌%◌, ◌<◌, ◌≤◌, true, cond, leb, List, [], ◌∷◌, ◌++◌, length, get_or, sym, refl, ap, ◌∙◌, subst, ⊎_elim, arith}
 use Rattle.std.specs.List.{prefix_len}
-use Rattle.std.proofs.lemmas.List.{get_or_past, get_or-map, length-map}
+use Rattle.std.proofs.lemmas.List.{get_or_past}
 use Rattle.std.proofs.lemmas.Bool.{cases_lt, cond-true, le-leb, lt-leb}
 use Rattle.std.proofs.lemmas.Bool.Decides.{nat_tests}
 use Rattle.address.specs.Blocks.{part_at, WritesPart, WritesBlock}
 use Rattle.kind.specs.Digits.{digit, Writes}
 use Rattle.address.specs.Labels.{digits_of, address_text}
+use Rattle.pile.proofs.Dotted.{part_in, last_stars}
 use Rattle.clock.specs.Times.{two_digits, clock_text, WritesTime, to_the_second}
-
-some_none : (n : ℕ) → Some n ≡ None → ⊥
-some_none n e = let z : ◌≡◌ {A = ℕ} 0 1 = cc in omega arith
 
 is_digit : (n : ℕ) → n < 10 → digit (48 + n) ≡ true
 is_digit n h = grind (arith, nat_tests)
@@ -77,31 +75,26 @@ number_shown n h =
     (cases_lt n 100))
     (cases_lt n 10)
 
-parts_of : (p : List ℕ) (i : ℕ) → i < length p → part_at (record { parts = map Some p }) i ≡ Some (get_or p i 0)
-parts_of p i h = get_or-map Some p i 0 None h
-
-part_shown : (p : List ℕ) (i : ℕ) → i < length p → get_or p i 0 ≤ 255 → WritesPart (part_at (record { parts = map Some p }) i) (digits_of (get_or p i 0))
-part_shown p i h small =
+part_shown : (p : List ℕ) (i : ℕ) → i < 4 → length p ≡ 4 → get_or p i 0 ≤ 255 → WritesPart (part_at (record { depth = 4; parts = p }) i) (digits_of (get_or p i 0))
+part_shown p i h long small =
     let w = number_shown (get_or p i 0) small in
-    subst (λ o. WritesPart o (digits_of (get_or p i 0))) (sym (parts_of p i h)) (w.0, w.1, small)
+    subst (λ o. WritesPart o (digits_of (get_or p i 0))) (sym (part_in (record { depth = 4; parts = p }) i h (omega arith))) (w.0, w.1, small)
 
-no_stars : (p : List ℕ) (i : ℕ) → part_at (record { parts = map Some p }) i ≡ None → part_at (record { parts = map Some p }) (i + 1) ≡ None
-no_stars p i e =
-    ⊎_elim
-    (λ in'. absurd (some_none (get_or p i 0) (sym (parts_of p i in') ∙ e)))
-    (λ out. let long : length (map Some p) ≡ length p = length-map p Some in get_or_past (map Some p) (i + 1) None (omega arith))
-    (cases_lt i (length p))
-
-pub addresses_shown : (p : List ℕ) → length p ≡ 4 → ((i : ℕ) → i < 4 → get_or p i 0 ≤ 255) → WritesBlock (address_text p) (record { parts = map Some p })
+pub addresses_shown : (p : List ℕ) → length p ≡ 4 → ((i : ℕ) → i < 4 → get_or p i 0 ≤ 255) → WritesBlock (address_text p) (record { depth = 4; parts = p })
 addresses_shown p long small = record {
   first = digits_of (get_or p 0 0);
   second = digits_of (get_or p 1 0);
   third = digits_of (get_or p 2 0);
   fourth = digits_of (get_or p 3 0);
   dotted = refl;
-  part_0 = part_shown p 0 (omega arith) (small 0 (omega arith));
-  part_1 = part_shown p 1 (omega arith) (small 1 (omega arith));
-  part_2 = part_shown p 2 (omega arith) (small 2 (omega arith));
-  part_3 = part_shown p 3 (omega arith) (small 3 (omega arith));
-  tidy = record { four = length-map p Some ∙ long; stars_last = no_stars p };
+  part_0 = part_shown p 0 (omega arith) long (small 0 (omega arith));
+  part_1 = part_shown p 1 (omega arith) long (small 1 (omega arith));
+  part_2 = part_shown p 2 (omega arith) long (small 2 (omega arith));
+  part_3 = part_shown p 3 (omega arith) long (small 3 (omega arith));
+  tidy = record {
+    four = long;
+    deep = omega arith;
+    blank = λ i l. get_or_past p i 0 (omega arith);
+    stars_last = last_stars (record { depth = 4; parts = p }) long (omega arith);
+  };
 }

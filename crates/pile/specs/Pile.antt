@@ -1,5 +1,5 @@
 -- The checker's own kind of condition, clock, then day, then address, and the laws that it keeps.
-use Rattle.std.specs.Prelude.{◌≡◌, ℕ, ◌<◌, ◌≤◌, ◌&&◌, List, map, length, Some, None, slice_index}
+use Rattle.std.specs.Prelude.{◌≡◌, ℕ, ◌<◌, ◌≤◌, ◌&&◌, List, length, Some, None, slice_index}
 use Rattle.address.specs.declared.address.Address.{Address}
 use Rattle.address.specs.declared.block.Block.{Block}
 use Rattle.address.specs.declared.entry.Entry.{Entry}
@@ -49,4 +49,4 @@ pub record PileLaws : Type 0 where
   -- a value is read as a block exactly when it writes that block
   pub blocks_read : (v : List ℕ) (b : Block) → Exactly (block_of v ≡ Some b) (WritesBlock v b)
   -- the text of an address writes the block of that address alone
-  pub addresses_shown : (p : List ℕ) → length p ≡ 4 → ((i : ℕ) → i < 4 → slice_index p i ≤ 255) → WritesBlock (address_text p) (record { parts = map Some p })
+  pub addresses_shown : (p : List ℕ) → length p ≡ 4 → ((i : ℕ) → i < 4 → slice_index p i ≤ 255) → WritesBlock (address_text p) (record { depth = 4; parts = p })
