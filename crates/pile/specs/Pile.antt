@@ -1,15 +1,16 @@
 -- The checker's own kind of condition, clock, then day, then address, and the laws that it keeps.
-use Rattle.std.specs.Prelude.{◌≡◌, ℕ, ◌<◌, ◌≤◌, ◌&&◌, List, length, Some, None, slice_index}
+use Rattle.std.specs.Prelude.{◌≡◌, ℕ, ◌<◌, ◌≤◌, not, ◌&&◌, List, length, Some, None, slice_index}
 use Rattle.address.specs.declared.address.Address.{Address}
 use Rattle.address.specs.declared.block.Block.{Block}
 use Rattle.address.specs.declared.entry.Entry.{Entry}
+use Rattle.address.specs.declared.entry.Entry.TheVariants.{In, Out}
 use Rattle.kind.specs.declared.both.Both.{Both}
 use Rattle.clock.specs.declared.clock.Clock.{Clock}
 use Rattle.kind.specs.declared.comparison.Sign.{Sign}
 use Rattle.kind.specs.declared.comparison.Sign.TheVariants.{AtLeast, AtMost}
 use Rattle.day.specs.declared.day.Day.{Day}
 use Rattle.address.specs.Addresses.{in_set, added, address_sense}
-use Rattle.address.specs.Blocks.{block_of, WritesBlock}
+use Rattle.address.specs.Blocks.{covers, block_of, WritesBlock}
 use Rattle.address.specs.Entries.{agrees}
 use Rattle.day.specs.Days.{left, stands_to, compared, day_name, day_of, day_sense}
 use Rattle.address.specs.Labels.{address_text}
@@ -46,6 +47,9 @@ pub record PileLaws : Type 0 where
   pub days_read : (v : List ℕ) (d : ℕ) → Exactly (day_of v ≡ Some d) ((d < 7) × (v ≡ day_name d))
   -- comparisons of addresses hold together, as long as there are at most eight
   pub addresses_together : (a : Address) (e : Entry) (p : List ℕ) → a.count < 8 → length a.slots ≡ 8 → in_set (after a (added a e)) p ≡ (in_set a p && agrees p e)
+  -- where it is `==`, an address must be in the block, and where it is `!=`, outside of it
+  pub addresses_in : (a : Address) (b : Block) (p : List ℕ) → a.count < 8 → length a.slots ≡ 8 → in_set (after a (added a (In b))) p ≡ (in_set a p && covers b p)
+  pub addresses_out : (a : Address) (b : Block) (p : List ℕ) → a.count < 8 → length a.slots ≡ 8 → in_set (after a (added a (Out b))) p ≡ (in_set a p && not (covers b p))
   -- a value is read as a block exactly when it writes that block
   pub blocks_read : (v : List ℕ) (b : Block) → Exactly (block_of v ≡ Some b) (WritesBlock v b)
   -- the text of an address writes the block of that address alone

@@ -1,4 +1,5 @@
 use Rattle.std.proofs.Common.{rules}
+use Rattle.address.specs.declared.entry.Entry.TheVariants.{In, Out}
 use Rattle.address.specs.Addresses.{address_sense}
 use Rattle.day.specs.Days.{day_sense}
 use Rattle.kind.specs.Pairs.{pair_sense}
@@ -24,6 +25,8 @@ returns c = record {
     days_together = days_together;
     days_read = days_read;
     addresses_together = addresses_together;
+    addresses_in = λ a b. addresses_together a (In b);
+    addresses_out = λ a b. addresses_together a (Out b);
     blocks_read = blocks_read;
     addresses_shown = addresses_shown;
   };
