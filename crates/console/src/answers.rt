@@ -1,11 +1,14 @@
 // Why there is no answer, and how an answer is written.
-ghost use Rattle.std.specs.Prelude.{◌≡◌, Err, OnOk, IfErr, IfSome, IsSome};
+ghost use Rattle.std.specs.Prelude.{◌≡◌, Err, OnOk, IfErr, IfSome, IsNone, IsSome};
+ghost use Rattle.std.specs.Fmt.{with_newline};
 ghost use Rattle.std.specs.Io.KnownBytes.{Appends};
 ghost use Rattle.console.specs.declared.answers.NoAnswer.TheVariants.{Refused, Failed};
 ghost use Rattle.console.specs.Answers.{failure, reason, told};
 
+use crate::line::Line;
 use site::Refusal;
 use std::alloc::AllocError;
+use std::fmt::Write as _;
 use std::io::Write;
 use std::{fmt, io};
 
@@ -27,8 +30,8 @@ impl From<Refusal> for NoAnswer {
 impl From<io::Error> for NoAnswer {
     ghost from_gives = { λ e r. r ≡ Failed e };
 
-    fn from(error: io::Error) -> NoAnswer {
-        NoAnswer::Failed(error)
+    fn from(cause: io::Error) -> NoAnswer {
+        NoAnswer::Failed(cause)
     }
 }
 
@@ -53,6 +56,20 @@ impl fmt::Display for NoAnswer {
     }
 }
 
+// Writes the line that says why there is no answer, whole and at once.
+fn write_line<W: Write>(out: &mut W, why: NoAnswer) -> io::Result<()>
+    requires { IsNone (failure why) }
+    ensures { OnOk result (IfSome (with_newline (reason why)) (Appends (W.contents out.old) (W.contents out.new))) }
+{
+    // The longest is `refused 24 at 18446744073709551615` and a newline, 35 bytes.
+    let mut line = Line::<35>::new();
+    match writeln!(line, "{why}") {
+        Ok(()) => out.write_all(line.as_slice()),
+        // `Line` takes any text: what comes here fails of itself, and does so at `out` too.
+        Err(_) => writeln!(out, "{why}"),
+    }
+}
+
 // Writes an answer, or a line that says why there is none; a failure of the system is the caller's.
 pub fn write_answer<W: Write>(out: &mut W, answer: Result<Vec<u8>, NoAnswer>) -> io::Result<()>
     ensures written { OnOk result (IfSome (told answer) (Appends (W.contents out.old) (W.contents out.new))) }
@@ -61,6 +78,6 @@ pub fn write_answer<W: Write>(out: &mut W, answer: Result<Vec<u8>, NoAnswer>) ->
     match answer {
         Ok(text) => out.write_all(text.as_slice()),
         Err(NoAnswer::Failed(error)) => Err(error),
-        Err(other) => writeln!(out, "{other}"),
+        Err(other) => write_line(out, other),
     }
 }

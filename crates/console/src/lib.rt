@@ -2,6 +2,7 @@
 #![tactic(auto)]
 
 mod answers;
+mod line;
 mod reading;
 
 pub use answers::{NoAnswer, write_answer};
