@@ -4,7 +4,6 @@ use crate::draft::Map;
 use fixed::Table;
 use paths::{Fault, Item};
 use site::{Link, Site};
-use std::alloc::{AllocError, Global};
 
 pub const ALL: usize = 200;
 
@@ -25,20 +24,20 @@ impl Dice {
 }
 
 // A row of nodes, each linked to the next, and some links more.
-fn site(alloc: Global, dice: &mut Dice, nodes: u8) -> Result<Map, AllocError> {
-    let mut map = Map::new(alloc);
+fn site(dice: &mut Dice, nodes: u8) -> Map {
+    let mut map = Map::new();
     for n in 0..nodes {
-        map.node(n)?;
+        map.node(n);
     }
     for n in 0..nodes {
         for m in 0..n {
             if n - m == 1 || dice.roll(2) == 0 {
-                map.link(n, m)?;
+                map.link(n, m);
             }
         }
     }
-    map.finish()?;
-    Ok(map)
+    map.finish();
+    map
 }
 
 fn items(dice: &mut Dice, nodes: u8) -> [Item; 4] {
@@ -122,22 +121,22 @@ fn expected(links: &[Link], nodes: u8, items: &[Item]) -> Result<u64, Fault> {
     }
 }
 
-fn agrees(alloc: Global, dice: &mut Dice) -> Result<bool, AllocError> {
+fn agrees(dice: &mut Dice) -> bool {
     let nodes = dice.roll(4) % 4 + 2;
-    let map = site(alloc, dice, nodes)?;
+    let map = site(dice, nodes);
     let all = items(dice, nodes);
     let count = dice.roll(4) as usize % 4 + 1;
     let some = &all[0..count];
-    Ok(Site::read(map.as_slice()).is_ok_and(|site| {
+    Site::read(map.as_slice()).is_ok_and(|site| {
         told(&site, &pattern(some)) == expected(site.links(), nodes, some)
-    }))
+    })
 }
 
-pub fn agreeing(alloc: Global) -> Result<usize, AllocError> {
+pub fn agreeing() -> usize {
     let mut dice = Dice { state: 2026 };
     let mut good = 0;
     for _ in 0..ALL {
-        good += usize::from(agrees(alloc, &mut dice)?);
+        good += usize::from(agrees(&mut dice));
     }
-    Ok(good)
+    good
 }

@@ -22,10 +22,10 @@ fn worked_cases(rt: &HostRuntime) -> io::Result<()> {
 fn main(rt: HostRuntime) -> io::Result<()> {
     worked_cases(&rt)?;
     println!(rt; "paths drawn on the worked site: {} of 5", draw::agreeing())?;
-    println!(rt; "budget: {} of 4", cliques::agreeing(rt.alloc())?)?;
-    let good = brute::agreeing(rt.alloc())?;
+    println!(rt; "budget: {} of 4", cliques::agreeing())?;
     println!(rt;
-        "random sites against all orders of their nodes: {good} of {}",
+        "random sites against all orders of their nodes: {} of {}",
+        brute::agreeing(),
         brute::ALL
     )
 }
