@@ -4,7 +4,7 @@ ghost use Rattle.fixed.specs.Items.{items};
 ghost use Rattle.site.specs.Sites.{plan};
 ghost use Rattle.sections.specs.Meeting.{viewed, read_section};
 ghost use Rattle.sections.specs.Targets.{Targets, added_class, target_of, target_read, no_target, target_section};
-ghost use Rattle.sections.specs.Classes.{member};
+ghost use Rattle.sections.specs.Classes.{listed, member};
 
 use crate::section::{Section, read};
 use fixed::{Table, is_name};
@@ -62,13 +62,19 @@ impl Target {
     pub fn contains(&self, class: u8) -> bool
         ensures { result ≡ member self.now class }
     {
-        let listed = self.classes.as_slice().contains(&class);
         match self.scope {
             Scope::All => true,
-            Scope::Only => listed,
-            Scope::AllBut => !listed,
+            Scope::Only => is_listed(self.classes.as_slice(), class),
+            Scope::AllBut => !is_listed(self.classes.as_slice(), class),
         }
     }
+}
+
+// Stops at the first hit; the library's `contains` goes through all bytes.
+fn is_listed(classes: &[u8], class: u8) -> bool
+    ensures { result ≡ listed class classes.now }
+{
+    classes.iter().any(|each| *each == class)
 }
 
 // One class more, if there is room for it and the site has it.
