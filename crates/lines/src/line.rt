@@ -5,7 +5,6 @@ ghost use Rattle.fixed.specs.Names.{spelling};
 ghost use Rattle.lines.specs.Lines.{written};
 
 use fixed::{Name, Table};
-use itoa::Buffer;
 
 // By hand: what `write!` promises leaves open that it fails, and putting never does.
 #[derive(Clone, Copy)]
@@ -35,13 +34,15 @@ impl Line {
         self.text.extend_from_slice(bytes);
     }
 
-    // Puts a number in digits.
+    // Puts a number in digits; by hand, since the kit's `itoa` would be one more crate to trust.
     pub(crate) fn put_number(&mut self, n: usize)
         ensures text { written self.new ≡ take 128 (written self.old ++ decimal n) }
         ensures short { length (decimal n) ≤ 20 }
     {
-        let mut digits = Buffer::new();
-        self.put(digits.format(n).as_bytes());
+        if n >= 10 {
+            self.put_number(n / 10);
+        }
+        self.put(&[b'0' + (n % 10) as u8]);
     }
 
     // Puts a name, if there is one.
