@@ -70,7 +70,7 @@ impl Target {
     }
 }
 
-// Stops at the first hit; the library's `contains` goes through all bytes.
+// Stops at the first hit, where the library's `contains` tests all of so few bytes.
 fn is_listed(classes: &[u8], class: u8) -> bool
     ensures { result ≡ listed class classes.now }
 {
