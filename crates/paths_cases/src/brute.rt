@@ -94,6 +94,8 @@ fn ports(links: &[Link], row: &[u8]) -> Option<u64> {
 fn blocks(items: &[Item], row: &[u8]) -> bool {
     match (items, row) {
         ([], _) => row.is_empty(),
+        // What is left, without a trial of each way to take it.
+        ([Item::Star], _) => true,
         ([Item::Node(m), rest @ ..], [n, after @ ..]) => m == n && blocks(rest, after),
         ([Item::Star, rest @ ..], [_, after @ ..]) => blocks(rest, row) || blocks(items, after),
         ([Item::Star, rest @ ..], []) => blocks(rest, row),
