@@ -21,8 +21,8 @@ enumerate-map f n [] = refl
 enumerate-map f n (x ∷ xs) = ap (λ l. (n, f x) ∷ l) (enumerate-map f (n + 1) xs)
 
 -- a text for each element's image
-pub each_map : {X Y : Type 0} (f : X → Y) (text : ℕ → Y → List ℕ) (xs : List X) → each_from text 0 (map f xs) ≡ each_from (λ k x. text k (f x)) 0 xs
-each_map f text xs = ap (flat_map (λ p. text p.0 p.1)) (enumerate-map f 0 xs) ∙ flat_map-map _ _ (enumerate_from 0 xs)
+pub each_map : {X Y : Type 0} (f : X → Y) (text : ℕ → Y → List ℕ) (i : ℕ) (xs : List X) → each_from text i (map f xs) ≡ each_from (λ k x. text k (f x)) i xs
+each_map f text i xs = ap (flat_map (λ p. text p.0 p.1)) (enumerate-map f i xs) ∙ flat_map-map _ _ (enumerate_from i xs)
 
 -- what is shown of a name that was looked up by its number
 pub shown_at : (xs : List (List ℕ)) (i : ℕ) (o : Option Name) → option_map spelling o ≡ slice_get xs i → shown o ≡ get_or xs i []
