@@ -4,7 +4,7 @@ ghost use Rattle.fixed.specs.Items.{items};
 ghost use Rattle.site.specs.Sites.{plan};
 ghost use Rattle.sections.specs.Meeting.{viewed, read_section};
 ghost use Rattle.sections.specs.Targets.{Targets, added_class, target_of, target_read, no_target, target_section};
-ghost use Rattle.sections.specs.Classes.{listed, member};
+ghost use Rattle.sections.specs.Classes.{member};
 
 use crate::section::{Section, read};
 use fixed::{Table, is_name};
@@ -62,19 +62,13 @@ impl Target {
     pub fn contains(&self, class: u8) -> bool
         ensures { result ≡ member self.now class }
     {
+        // The scope first, since the library's `contains` tests all places of so short a list.
         match self.scope {
             Scope::All => true,
-            Scope::Only => is_listed(self.classes.as_slice(), class),
-            Scope::AllBut => !is_listed(self.classes.as_slice(), class),
+            Scope::Only => self.classes.as_slice().contains(&class),
+            Scope::AllBut => !self.classes.as_slice().contains(&class),
         }
     }
-}
-
-// Stops at the first hit, where the library's `contains` tests all of so few bytes.
-fn is_listed(classes: &[u8], class: u8) -> bool
-    ensures { result ≡ listed class classes.now }
-{
-    classes.iter().any(|each| *each == class)
 }
 
 // One class more, if there is room for it and the site has it.
